@@ -1,0 +1,1 @@
+// What an open call answers, as definitions: see specs/. There is no code here.

@@ -1,0 +1,53 @@
+-- The binary digits of a number, or of a mask: reading one, and writing one. Assumes nothing.
+use mathlib.Core.Path.{_≡_, refl, sym, ap, ap₂, _∙_, subst}
+use Prim.Native.Nat.{ℕ, zero, suc, _+_, _-_, _*_, _/_, _%_, _^_, _≤_, _<_}
+use native.Mathlib.Nat.{mod-lt, zero-lt-suc, div-eq-of-lt, pow-suc, one-mul}
+use native.Mathlib.Omega.{arith}
+use lib.Arith.{digits-mod, mod-mul}
+use lib.Dec.{lit<}
+use lib.Pow.{pow-pos, pow-mono, shr-shr, field, shl-exact}
+
+-- digit q of a
+unfoldable pub digit : ℕ → ℕ → ℕ
+digit q a = a / 2 ^ q % 2
+
+-- a with d, a digit, written at q: the digits above and below stay
+unfoldable pub put : ℕ → ℕ → ℕ → ℕ
+put q d a = (a / 2 ^ q / 2 * 2 + d) * 2 ^ q + a % 2 ^ q
+
+-- a remainder by 2 is a digit
+pub mod-two : (n : ℕ) → n % 2 < 2
+mod-two n = mod-lt n (zero-lt-suc 1)
+
+pub digit-lt : (q a : ℕ) → digit q a < 2
+unfolding digit
+digit-lt q a = mod-two (a / 2 ^ q)
+
+-- a number below 2 ^ n has no digit from n on
+pub digit-above : (n q a : ℕ) → a < 2 ^ n → n ≤ q → digit q a ≡ 0
+unfolding digit
+digit-above n q a h l =
+    let small : a < 2 ^ q = omega (arith, pow-mono {i = n} {j = q} l) in
+    ap (λ (m : ℕ). m % 2) (div-eq-of-lt small)
+
+-- the digits from s on are those of a / 2 ^ s
+pub digit-high : (s q a : ℕ) → digit (s + q) a ≡ digit q (a / 2 ^ s)
+unfolding digit
+digit-high s q a = ap (λ (m : ℕ). m % 2) (sym (shr-shr a s q))
+
+-- the digits below s are those of a % 2 ^ s
+pub digit-low : (s q a : ℕ) → q < s → digit q (a % 2 ^ s) ≡ digit q a
+unfolding digit
+digit-low s q a h =
+    let parts : s ≡ suc (s - suc q) + q = omega arith in
+    let even : 2 ^ suc (s - suc q) ≡ 2 ^ (s - suc q) * 2 = pow-suc 2 (s - suc q) in
+    ap (λ (m : ℕ). a % 2 ^ m / 2 ^ q % 2) parts
+    ∙ ap (λ (m : ℕ). m % 2) (field a (suc (s - suc q)) q ∙ ap (λ (m : ℕ). a / 2 ^ q % m) even)
+    ∙ mod-even (a / 2 ^ q) (2 ^ (s - suc q)) (pow-pos (s - suc q))
+  where
+    mod-even : (b m : ℕ) → 0 < m → b % (m * 2) % 2 ≡ b % 2
+    mod-even b m h = ap (λ (n : ℕ). n % 2) (mod-mul b {m = m} {c = 2} h (zero-lt-suc 1)) ∙ digits-mod (b / 2 % m) (mod-two b)
+
+-- a one shifted up within a word of `size` bits
+pub one-shifted : (size q : ℕ) → q < size → (1 * 2 ^ q) % 2 ^ size ≡ 2 ^ q
+one-shifted size q h = shl-exact 1 q size (lit< tt) (omega arith) ∙ one-mul (2 ^ q)

@@ -1,0 +1,14 @@
+use mathlib.Core.Path.{refl}
+use lib.Bits.{bitAnd, and-lt}
+use lib.Count.{ones-le}
+use borrow.Author.Needs.{needs}
+use Rattle.bits.proofs.mask.shared_in_word.Statement.{statement}
+use Rattle.bits.proofs.mask.shared_in_word.Tie as tie
+use Rattle.bits.proofs.mask.shared_in_word.Reads as reads
+use Rattle.bits.proofs.mask.shared_in_word.Lts as lts
+
+returns : tie.Need-returns
+returns c = (refl, ones-le 64 (bitAnd (c .args .a) (c .args .b)) (and-lt 64 (c .args .a) (c .args .b) (search needs) (search needs)))
+
+pub shared-in-word-spec : {M : Type 1} → statement M
+shared-in-word-spec = tie.close (tie.spec returns)

@@ -1,0 +1,1 @@
+// The starred examples of the scope in one table: see specs/. There is no code here.

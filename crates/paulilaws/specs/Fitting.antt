@@ -1,0 +1,60 @@
+-- What row 3 lets pass, as facts. Assumes nothing.
+use mathlib.Core.Path.{_≡_, refl, sym, ap, _∙_}
+use mathlib.Core.Bool.{Bool, true, false, _&&_}
+use Prim.Native.Nat.{ℕ, _+_, _*_, _%_, _^_, _≤_, _<_}
+use lib.Dec.{leb, ltb}
+use borrow.Author.Tests.{leb-true, ltb-true, le-leb, lt-ltb}
+use Rattle.bitlaws.specs.Writing.{put-lt}
+use Rattle.paulilaws.specs.Pauli.{Pauli, fits, mostQubits}
+use Rattle.paulilaws.specs.Letter.{Letter, xPart, zPart, isY, letterAt, withLetter, x-digit, z-digit}
+use native.Mathlib.Nat.{mod-lt, zero-lt-suc}
+use native.Mathlib.Omega.{arith}
+
+pub record Fitting (P : Pauli) : Type 0 where
+  pub phase : P .k ≤ 3
+  pub width : P .n ≤ mostQubits
+  pub xs : P .x < 2 ^ P .n
+  pub zs : P .z < 2 ^ P .n
+
+both-left : (p q : Bool) → (p && q) ≡ true → p ≡ true
+both-left true q e = refl
+both-left false q e = e
+
+both-right : (p q : Bool) → (p && q) ≡ true → q ≡ true
+both-right true q e = e
+both-right false q e = absurd (let z : _≡_ {A = ℕ} 0 1 = cc in omega arith)
+
+pub fits-fitting : (P : Pauli) → fits P ≡ true → Fitting P
+unfolding fits
+fits-fitting P e =
+    let a : Bool = leb (P .k) 3 in
+    let b : Bool = leb (P .n) mostQubits in
+    let c : Bool = ltb (P .x) (2 ^ P .n) in
+    let d : Bool = ltb (P .z) (2 ^ P .n) in
+    let abc = both-left (a && b && c) d e in
+    let ab = both-left (a && b) c abc in
+    record {
+      phase = leb-true (P .k) 3 (both-left a b ab);
+      width = leb-true (P .n) mostQubits (both-right a b ab);
+      xs = ltb-true (P .x) (2 ^ P .n) (both-right (a && b) c abc);
+      zs = ltb-true (P .z) (2 ^ P .n) (both-right (a && b && c) d e);
+    }
+
+pub fitting-fits : (P : Pauli) → Fitting P → fits P ≡ true
+unfolding fits
+fitting-fits P f = rw (le-leb (P .k) 3 (f .phase), le-leb (P .n) mostQubits (f .width), lt-ltb (P .x) (2 ^ P .n) (f .xs), lt-ltb (P .z) (2 ^ P .n) (f .zs))
+
+pub identity-fitting : (n : ℕ) → n ≤ mostQubits → Fitting (record { n = n; k = 0; x = 0; z = 0 })
+identity-fitting n h = record { phase = omega arith; width = h; xs = lib.Pow.pow-pos n; zs = lib.Pow.pow-pos n }
+
+-- a letter set keeps a Pauli a Pauli
+pub letter-fitting : (q : ℕ) (l : Letter) (P : Pauli) → q < P .n → Fitting P → Fitting (withLetter q l P)
+unfolding withLetter
+letter-fitting q l P h f =
+    let small = mod-lt (P .k + isY l + 3 * isY (letterAt q P)) (zero-lt-suc 3) in
+    record {
+      phase = omega (arith, small);
+      width = f .width;
+      xs = put-lt q (P .n) (xPart l) (P .x) h (x-digit l) (f .xs);
+      zs = put-lt q (P .n) (zPart l) (P .z) h (z-digit l) (f .zs);
+    }

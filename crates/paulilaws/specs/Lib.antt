@@ -1,0 +1,6 @@
+pub mod Pauli
+pub mod Action
+pub mod Algebra
+pub mod Letter
+pub mod Support
+pub mod Fitting

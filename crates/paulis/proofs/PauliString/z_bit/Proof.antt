@@ -1,0 +1,45 @@
+use mathlib.Core.Path.{sym, ap, _∙_}
+use Rattle.answers.specs.Answer.Answer.{accepted}
+use Rattle.paulis.specs.Calls.{zBitCall}
+use Rattle.paulis.specs.Rows.{no-pauli-qubit, no-qubit, a-qubit}
+use Rattle.bitlaws.specs.Digit.{digit}
+use lib.Dec.{eqb}
+use Rattle.paulis.specs.Strings.{pauliOf}
+use borrow.Author.Needs.{needs}
+use Rattle.paulis.proofs.PauliString.z_bit.Statement.{statement}
+use Rattle.paulis.proofs.PauliString.z_bit.Tie as tie
+use Rattle.paulis.proofs.PauliString.z_bit.Reads as reads
+use Rattle.paulis.proofs.PauliString.z_bit.Lts as lts
+use Rattle.paulis.proofs.PauliString.is_pauli.Reads as is-pauli-reads
+use Rattle.bits.proofs.mask.packed_bit.Reads as packed-bit-reads
+
+is-pauli-requires : tie.Need-is-pauli-requires
+is-pauli-requires c κs = search needs
+
+returns : tie.Need-returns
+unfolding zBitCall
+returns c =
+    let a = c .before .before .args in
+    let P = pauliOf (a .self) in
+    sym (no-pauli-qubit P (a .q) (accepted (eqb (digit (a .q) (P .z)) 1)) (c .before .is-pauli .ensures) (c .if1 .taken))
+
+returns-2 : tie.Need-returns-2
+unfolding zBitCall
+returns-2 c =
+    let a = c .before .before .before .before .args in
+    let P = pauliOf (a .self) in
+    sym (no-qubit P (a .q) (accepted (eqb (digit (a .q) (P .z)) 1)) (c .before .before .before .is-pauli .ensures) (c .before .before .if1 .left) (c .if2 .taken))
+
+packed-bit-requires : tie.Need-packed-bit-requires
+packed-bit-requires c κs = search needs
+
+returns-3 : tie.Need-returns-3
+unfolding zBitCall
+returns-3 c =
+    let a = c .before .before .before .before .before .before .args in
+    let P = pauliOf (a .self) in
+    ap accepted (c .packed-bit .ensures)
+    ∙ sym (a-qubit P (a .q) (accepted (eqb (digit (a .q) (P .z)) 1)) (c .before .before .before .before .before .is-pauli .ensures) (c .before .before .before .before .if1 .left) (c .before .before .if2 .left))
+
+pub z-bit-spec : {M : Type 1} → statement M
+z-bit-spec = tie.close (tie.spec is-pauli-requires returns returns-2 packed-bit-requires returns-3)

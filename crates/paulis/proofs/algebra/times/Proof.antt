@@ -1,0 +1,65 @@
+use mathlib.Core.Path.{_≡_, refl, ap, ap₂, _∙_}
+use Prim.Native.Nat.{ℕ, _+_, _*_, _%_}
+use Rattle.bitlaws.specs.Parity.{overlap, parity}
+use Rattle.paulilaws.specs.Pauli.{same, product}
+use borrow.Author.Needs.{needs}
+use Rattle.paulis.proofs.algebra.times.Statement.{statement}
+use Rattle.paulis.proofs.algebra.times.Tie as tie
+use Rattle.paulis.proofs.algebra.times.Reads as reads
+use Rattle.paulis.proofs.algebra.times.Lts as lts
+use Rattle.paulis.proofs.algebra.wide.Reads as wide-reads
+use Rattle.bits.proofs.mask.shared_ones.Reads as shared-ones-reads
+use Rattle.bits.proofs.mask.xor_words.Reads as xor-words-reads
+
+shared-ones-requires : tie.Need-shared-ones-requires
+shared-ones-requires c κs = search needs
+
+wide-requires : tie.Need-wide-requires
+wide-requires c κs = search needs
+
+wide-requires-2 : tie.Need-wide-requires-2
+wide-requires-2 c κs = search needs
+
+add-phase : tie.Need-add-phase
+add-phase c = search needs
+
+mul-phase : tie.Need-mul-phase
+mul-phase c = search needs
+
+add-phase-2 : tie.Need-add-phase-2
+add-phase-2 c = search needs
+
+xor-words-requires : tie.Need-xor-words-requires
+xor-words-requires c κs = search needs
+
+xor-words-requires-2 : tie.Need-xor-words-requires-2
+xor-words-requires-2 c κs = search needs
+
+cast-t16 : tie.Need-cast-t16
+cast-t16 c = search needs
+
+returns : tie.Need-returns
+unfolding product overlap parity
+returns c =
+    let wa = c .before .before .before .wide .ensures .0 in
+    let wb = c .before .before .wide2 .ensures .0 in
+    let carry = c .before .before .before .before .shared-ones .ensures .0 in
+    same refl
+    (rw (wa, wb, carry))
+    (c .before .xor-words .ensures)
+    (c .xor-words2 .ensures)
+
+pub times-spec : {M : Type 1} → statement M
+times-spec =
+    tie.close
+    (tie.spec
+    shared-ones-requires
+    wide-requires
+    wide-requires-2
+    add-phase
+    mul-phase
+    add-phase-2
+    xor-words-requires
+    xor-words-requires-2
+    cast-t16
+    returns)

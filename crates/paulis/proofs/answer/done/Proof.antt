@@ -1,0 +1,13 @@
+use mathlib.Core.Path.{refl}
+use Rattle.answers.specs.Answer.{valueOr}
+use Rattle.paulis.proofs.answer.done.Statement.{statement}
+use Rattle.paulis.proofs.answer.done.Tie as tie
+use Rattle.paulis.proofs.answer.done.Reads as reads
+use Rattle.paulis.proofs.answer.done.Lts as lts
+
+returns : tie.Need-returns
+unfolding valueOr
+returns c = record { told = refl; beside = refl }
+
+pub done-spec : {M : Type 1} → statement M
+done-spec = tie.close (tie.spec returns)

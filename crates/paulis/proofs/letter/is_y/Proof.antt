@@ -1,0 +1,38 @@
+use mathlib.Core.Path.{refl, sym, ap}
+use native.Mathlib.Omega.{arith}
+use Rattle.paulilaws.specs.Letter.{isY}
+use Rattle.paulis.specs.Strings.{letterMeant}
+use borrow.Author.Needs.{needs}
+use Rattle.paulis.proofs.letter.is_y.Statement.{statement}
+use Rattle.paulis.proofs.letter.is_y.Tie as tie
+use Rattle.paulis.proofs.letter.is_y.Reads as reads
+use Rattle.paulis.proofs.letter.is_y.Lts as lts
+
+enum-told : tie.Need-enum-told
+enum-told c = search needs
+
+enum-told-2 : tie.Need-enum-told-2
+enum-told-2 c = search needs
+
+enum-told-3 : tie.Need-enum-told-3
+enum-told-3 c = search needs
+
+enum-told-4 : tie.Need-enum-told-4
+enum-told-4 c = search needs
+
+returns : tie.Need-returns
+returns c = (cc, omega arith)
+
+returns-2 : tie.Need-returns-2
+returns-2 c = (cc, omega arith)
+
+returns-3 : tie.Need-returns-3
+returns-3 c = (cc, omega arith)
+
+returns-4 : tie.Need-returns-4
+returns-4 c = (cc, omega arith)
+
+pub is-y-spec : {M : Type 1} → statement M
+is-y-spec =
+    tie.close
+    (tie.spec enum-told enum-told-2 enum-told-3 enum-told-4 returns returns-2 returns-3 returns-4)

@@ -1,0 +1,4 @@
+pub mod Strings
+pub mod Calls
+pub mod Rows
+pub mod Exact

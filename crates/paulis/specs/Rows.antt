@@ -1,0 +1,51 @@
+-- Which row of the table answers a call, from the tests that the code makes. Assumes nothing.
+use mathlib.Core.Path.{_≡_, refl, sym, ap, _∙_}
+use mathlib.Core.Bool.{Bool, true, false, not, _&&_}
+use Prim.Native.Nat.{ℕ, _≤_, _<_}
+use lib.Dec.{leb, eqb}
+use borrow.Author.Tests.{le-leb, lt-leb, eq-eqb, ne-eqb, not-false}
+use Rattle.answers.specs.Answer.{Answer, refuse}
+use Rattle.answers.specs.Answer.Answer.{refused}
+use Rattle.paulilaws.specs.Pauli.{Pauli, fits}
+use Rattle.paulilaws.specs.Fitting.{Fitting, fits-fitting}
+use Rattle.paulis.specs.Calls.{onPauli, onPair, onQubit}
+
+module _ {A : Type 0} (P : Pauli) (rest : Answer A) {t : Bool} (is : t ≡ fits P) where
+  pub no-pauli : not t ≡ true → onPauli P rest ≡ refused 3
+  unfolding onPauli refuse
+  no-pauli h = rw (← is, h)
+
+  module _ (h : not t ≡ false) where
+    pub a-pauli : onPauli P rest ≡ rest
+    unfolding onPauli refuse
+    a-pauli = rw (← is, h)
+
+-- what a passed test says
+pub passed : (P : Pauli) {t : Bool} → t ≡ fits P → not t ≡ false → Fitting P
+passed P {t} is h = fits-fitting P (sym is ∙ not-false t h)
+
+module _ {A : Type 0} (P : Pauli) (q : ℕ) (rest : Answer A) {t : Bool} (is : t ≡ fits P) where
+  pub no-pauli-qubit : not t ≡ true → onQubit P q rest ≡ refused 3
+  unfolding onQubit
+  no-pauli-qubit h = no-pauli P (refuse (leb (P .n) q) 5 rest) is h
+
+  pub no-qubit : not t ≡ false → P .n ≤ q → onQubit P q rest ≡ refused 5
+  unfolding onQubit refuse
+  no-qubit h l = a-pauli P (refuse (leb (P .n) q) 5 rest) is h ∙ rw (le-leb (P .n) q l)
+
+  pub a-qubit : not t ≡ false → q < P .n → onQubit P q rest ≡ rest
+  unfolding onQubit refuse
+  a-qubit h l = a-pauli P (refuse (leb (P .n) q) 5 rest) is h ∙ rw (lt-leb (P .n) q l)
+
+module _ {A : Type 0} (P Q : Pauli) (rest : Answer A) {t u : Bool} (is : t ≡ fits P) (iu : u ≡ fits Q) where
+  pub no-paulis : not (t && u) ≡ true → onPair P Q rest ≡ refused 3
+  unfolding onPair refuse
+  no-paulis h = rw (← is, ← iu, h)
+
+  pub unequal : not (t && u) ≡ false → (P .n ≡ Q .n → ⊥) → onPair P Q rest ≡ refused 4
+  unfolding onPair refuse
+  unequal h ne = rw (← is, ← iu, h, ne-eqb (P .n) (Q .n) ne)
+
+  pub equal : not (t && u) ≡ false → P .n ≡ Q .n → onPair P Q rest ≡ rest
+  unfolding onPair refuse
+  equal h e = rw (← is, ← iu, h, eq-eqb (P .n) (Q .n) e)

@@ -1,0 +1,59 @@
+-- What the declared types mean: a PauliString is a Pauli, and each case of an answer's enum is an answer of the scope. Assumes nothing.
+use mathlib.Core.Path.{_≡_}
+use mathlib.Core.Bool.{Bool}
+use mathlib.Core.Option.{Option, none, some}
+use Prim.Native.Nat.{ℕ}
+use Rattle.answers.specs.Answer.{Answer, valueOr}
+use Rattle.answers.specs.Answer.Answer.{accepted, refused}
+use Rattle.paulilaws.specs.Pauli.{Pauli, identity}
+use Rattle.paulilaws.specs.Letter.{Letter}
+use Rattle.bits.specs.Mask.{mask}
+use Rattle.paulis.specs.declared.PauliString.{PauliString}
+use Rattle.paulis.specs.declared.PauliAnswer.{PauliAnswer}
+use Rattle.paulis.specs.declared.Outcome.{Outcome}
+use Rattle.paulis.specs.declared.Outcome.the-variants as outcome
+use Rattle.paulis.specs.declared.Pauli as one
+use Rattle.paulis.specs.declared.Pauli.the-variants as single
+use Rattle.paulis.specs.declared.BitAnswer.{BitAnswer}
+use Rattle.paulis.specs.declared.BitAnswer.the-variants as bit
+use Rattle.paulis.specs.declared.PhaseAnswer.{PhaseAnswer}
+use Rattle.paulis.specs.declared.PhaseAnswer.the-variants as phase
+use Rattle.paulis.specs.declared.LetterAnswer.{LetterAnswer}
+use Rattle.paulis.specs.declared.LetterAnswer.the-variants as read
+use Rattle.paulis.specs.declared.SupportAnswer.{SupportAnswer}
+use Rattle.paulis.specs.declared.SupportAnswer.the-variants as support
+
+abbrev pub pauliOf : PauliString → Pauli
+pauliOf s = record { n = s .nqubits; k = s .phase; x = mask (s .x); z = mask (s .z) }
+
+abbrev pub letterMeant : one.Pauli → Letter
+letterMeant single.I = Letter.I
+letterMeant single.X = Letter.X
+letterMeant single.Z = Letter.Z
+letterMeant single.Y = Letter.Y
+
+abbrev pub bitTold : BitAnswer → Answer Bool
+bitTold (bit.Bit b) = accepted b
+bitTold (bit.Refused n) = refused n
+
+abbrev pub phaseTold : PhaseAnswer → Answer ℕ
+phaseTold (phase.Exponent k) = accepted k
+phaseTold (phase.Refused n) = refused n
+
+abbrev pub letterTold : LetterAnswer → Answer Letter
+letterTold (read.Letter l) = accepted (letterMeant l)
+letterTold (read.Refused n) = refused n
+
+abbrev pub supportTold : SupportAnswer → Answer (Option ℕ)
+supportTold (support.Qubit q) = accepted (some q)
+supportTold support.Identity = accepted none
+supportTold (support.Refused n) = refused n
+
+abbrev pub outcomeTold : Outcome → Pauli → Answer Pauli
+outcomeTold outcome.Done P = accepted P
+outcomeTold (outcome.Refused n) P = refused n
+
+-- r is the answer a: the outcome tells it, and beside a refusal stands the identity on no qubits
+pub record Made (r : PauliAnswer) (a : Answer Pauli) : Type 0 where
+  pub told : outcomeTold (r .outcome) (pauliOf (r .pauli)) ≡ a
+  pub beside : pauliOf (r .pauli) ≡ valueOr (identity 0) a

@@ -1,0 +1,76 @@
+// One qubit's letter, read and set, of a Pauli whose fields were looked at.
+use crate::Pauli;
+use crate::PauliString;
+ghost use mathlib.Core.Path.{_≡_};
+ghost use Prim.Native.Nat.{_<_, _≤_};
+ghost use lib.Dec.{eqb};
+ghost use Rattle.paulilaws.specs.Letter as book;
+ghost use Rattle.bits.specs.Mask.{bitOf};
+ghost use Rattle.paulis.specs.Strings.{pauliOf, letterMeant};
+
+pub(crate) fn at(pauli: PauliString, q: usize) -> Pauli
+    ensures { λ r. ⌜ letterMeant r ≡ book.letterAt q (pauliOf pauli) ⌝ }
+{
+    let x = pauli.x;
+    let z = pauli.z;
+    from_bits(bits::mask::packed_bit(x, q), bits::mask::packed_bit(z, q))
+}
+
+pub(crate) fn with(pauli: PauliString, q: usize, letter: Pauli) -> PauliString
+    requires { ⌜ (q < 256) × (pauli .phase ≤ 3) ⌝ }
+    ensures { λ r. ⌜ pauliOf r ≡ book.withLetter q (letterMeant letter) (pauliOf pauli) ⌝ }
+{
+    let x = pauli.x;
+    let z = pauli.z;
+    let was_y = is_y(at(pauli, q));
+    PauliString {
+        nqubits: pauli.nqubits,
+        x: bits::mask::set_packed_bit(x, q, x_part(letter)),
+        z: bits::mask::set_packed_bit(z, q, z_part(letter)),
+        phase: (pauli.phase + is_y(letter) + 3 * was_y) % 4,
+    }
+}
+
+fn from_bits(x: bool, z: bool) -> Pauli
+    ensures { λ r. ⌜ letterMeant r ≡ book.letterOf (bitOf x) (bitOf z) ⌝ }
+{
+    if x {
+        if z { Pauli::Y } else { Pauli::X }
+    } else {
+        if z { Pauli::Z } else { Pauli::I }
+    }
+}
+
+fn x_part(letter: Pauli) -> bool
+    ensures { λ r. ⌜ bitOf r ≡ book.xPart (letterMeant letter) ⌝ }
+{
+    match letter {
+        Pauli::I => false,
+        Pauli::X => true,
+        Pauli::Z => false,
+        Pauli::Y => true,
+    }
+}
+
+fn z_part(letter: Pauli) -> bool
+    ensures { λ r. ⌜ bitOf r ≡ book.zPart (letterMeant letter) ⌝ }
+{
+    match letter {
+        Pauli::I => false,
+        Pauli::X => false,
+        Pauli::Z => true,
+        Pauli::Y => true,
+    }
+}
+
+// 1 for Y, else 0.
+fn is_y(letter: Pauli) -> u8
+    ensures { λ r. ⌜ (r ≡ book.isY (letterMeant letter)) × (r ≤ 1) ⌝ }
+{
+    match letter {
+        Pauli::I => 0,
+        Pauli::X => 0,
+        Pauli::Z => 0,
+        Pauli::Y => 1,
+    }
+}

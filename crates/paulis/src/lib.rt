@@ -1,0 +1,243 @@
+// Packed Pauli strings (pauli.rs).
+//
+// The operator is i^phase times X^x Z^z: qubit q lives at bit q % 64 of word q / 64 of `x` and `z`,
+// and a Y is stored as x = 1, z = 1 with one more in the phase. The fields are public, so each call
+// looks at its Paulis first and refuses by 3 what is none; then by 4, 5, 7 of the scope's table,
+// the lowest number first.
+mod algebra;
+mod answer;
+mod letter;
+mod support;
+
+ghost use mathlib.Core.Path.{_≡_};
+ghost use Rattle.paulilaws.specs.Pauli.{fits};
+ghost use Rattle.bits.specs.Mask.{mask};
+ghost use Rattle.paulis.specs.Strings.{pauliOf, bitTold, phaseTold, letterTold, supportTold, letterMeant, Made};
+ghost use Rattle.paulis.specs.Calls.{identityCall, partsCall, xBitCall, zBitCall, getCall, setCall, productCall, anticommutesCall, coefficientCall, squaresCall, signCall, supportCall};
+
+// A Pauli operator on `nqubits` qubits, at most 256, with a phase exponent of i in 0..3.
+pub struct PauliString {
+    pub nqubits: usize,
+    pub x: [u64; 4],
+    pub z: [u64; 4],
+    pub phase: u8,
+}
+
+// A single-qubit Pauli operator.
+pub enum Pauli {
+    I,
+    X,
+    Z,
+    Y,
+}
+
+// Whether a Pauli was made, or the number of the refusal.
+pub enum Outcome {
+    Done,
+    Refused(u8),
+}
+
+// The Pauli that was made; beside a refusal, the identity on no qubits.
+pub struct PauliAnswer {
+    pub outcome: Outcome,
+    pub pauli: PauliString,
+}
+
+pub enum BitAnswer {
+    Bit(bool),
+    Refused(u8),
+}
+
+pub enum PhaseAnswer {
+    Exponent(u8),
+    Refused(u8),
+}
+
+pub enum LetterAnswer {
+    Letter(Pauli),
+    Refused(u8),
+}
+
+pub enum SupportAnswer {
+    Qubit(usize),
+    Identity,
+    Refused(u8),
+}
+
+impl PauliString {
+    // Identity on `nqubits` qubits.
+    pub fn new(nqubits: usize) -> PauliAnswer
+        ensures { λ r. ⌜ Made r (identityCall nqubits) ⌝ }
+    {
+        if 256 < nqubits {
+            return answer::refused(3);
+        }
+        answer::done(answer::identity(nqubits))
+    }
+
+    // The Pauli with these fields.
+    pub fn from_parts(nqubits: usize, x: [u64; 4], z: [u64; 4], phase: u8) -> PauliAnswer
+        ensures { λ r. ⌜ Made r (partsCall (record { n = nqubits; k = phase; x = mask x; z = mask z })) ⌝ }
+    {
+        let parts = PauliString {
+            nqubits,
+            x,
+            z,
+            phase,
+        };
+        if !parts.is_pauli() {
+            return answer::refused(3);
+        }
+        answer::done(parts)
+    }
+
+    // Whether the fields are a Pauli: phase at most 3, width at most 256, no mask bit at or above
+    // the width.
+    pub fn is_pauli(self) -> bool
+        ensures { λ r. ⌜ r ≡ fits (pauliOf self) ⌝ }
+    {
+        if 3 < self.phase {
+            return false;
+        }
+        if 256 < self.nqubits {
+            return false;
+        }
+        let x = self.x;
+        let z = self.z;
+        bits::mask::mask_fits(x, self.nqubits) & bits::mask::mask_fits(z, self.nqubits)
+    }
+
+    // Whether qubit `q` has an X component.
+    pub fn x_bit(self, q: usize) -> BitAnswer
+        ensures { λ r. ⌜ bitTold r ≡ xBitCall (pauliOf self) q ⌝ }
+    {
+        if !self.is_pauli() {
+            return BitAnswer::Refused(3);
+        }
+        if self.nqubits <= q {
+            return BitAnswer::Refused(5);
+        }
+        let x = self.x;
+        BitAnswer::Bit(bits::mask::packed_bit(x, q))
+    }
+
+    // Whether qubit `q` has a Z component.
+    pub fn z_bit(self, q: usize) -> BitAnswer
+        ensures { λ r. ⌜ bitTold r ≡ zBitCall (pauliOf self) q ⌝ }
+    {
+        if !self.is_pauli() {
+            return BitAnswer::Refused(3);
+        }
+        if self.nqubits <= q {
+            return BitAnswer::Refused(5);
+        }
+        let z = self.z;
+        BitAnswer::Bit(bits::mask::packed_bit(z, q))
+    }
+
+    // The single-qubit Pauli acting on `q`.
+    pub fn get(self, q: usize) -> LetterAnswer
+        ensures { λ r. ⌜ letterTold r ≡ getCall (pauliOf self) q ⌝ }
+    {
+        if !self.is_pauli() {
+            return LetterAnswer::Refused(3);
+        }
+        if self.nqubits <= q {
+            return LetterAnswer::Refused(5);
+        }
+        LetterAnswer::Letter(letter::at(self, q))
+    }
+
+    // Replaces the Pauli acting on `q`. The phase follows the Ys, so the coefficient in front of
+    // the letters stays.
+    pub fn set(self, q: usize, pauli: Pauli) -> PauliAnswer
+        ensures { λ r. ⌜ Made r (setCall (pauliOf self) q (letterMeant pauli)) ⌝ }
+    {
+        if !self.is_pauli() {
+            return answer::refused(3);
+        }
+        if self.nqubits <= q {
+            return answer::refused(5);
+        }
+        answer::done(letter::with(self, q, pauli))
+    }
+
+    // The product, in which `rhs` acts first.
+    pub fn mul(self, rhs: PauliString) -> PauliAnswer
+        ensures { λ r. ⌜ Made r (productCall (pauliOf self) (pauliOf rhs)) ⌝ }
+    {
+        if !(self.is_pauli() & rhs.is_pauli()) {
+            return answer::refused(3);
+        }
+        if self.nqubits != rhs.nqubits {
+            return answer::refused(4);
+        }
+        answer::done(algebra::times(self, rhs))
+    }
+
+    // The largest qubit that carries a non-identity Pauli.
+    pub fn max_support(self) -> SupportAnswer
+        ensures { λ r. ⌜ supportTold r ≡ supportCall (pauliOf self) ⌝ }
+    {
+        if !self.is_pauli() {
+            return SupportAnswer::Refused(3);
+        }
+        let x = self.x;
+        let z = self.z;
+        support::highest_bit(x, z)
+    }
+}
+
+// Constructs identity on `nqubits` qubits.
+pub fn pauli_identity(nqubits: usize) -> PauliAnswer
+    ensures { λ r. ⌜ Made r (identityCall nqubits) ⌝ }
+{
+    PauliString::new(nqubits)
+}
+
+// Symplectic inner product: true when `a` and `b` anticommute.
+pub fn pauli_anticommutes(a: PauliString, b: PauliString) -> BitAnswer
+    ensures { λ r. ⌜ bitTold r ≡ anticommutesCall (pauliOf a) (pauliOf b) ⌝ }
+{
+    if !(a.is_pauli() & b.is_pauli()) {
+        return BitAnswer::Refused(3);
+    }
+    if a.nqubits != b.nqubits {
+        return BitAnswer::Refused(4);
+    }
+    BitAnswer::Bit(algebra::anticommute(a, b))
+}
+
+// The exponent of i in front of the letters: the phase minus the number of Ys, modulo 4.
+pub fn coefficient_phase(pauli: PauliString) -> PhaseAnswer
+    ensures { λ r. ⌜ phaseTold r ≡ coefficientCall (pauliOf pauli) ⌝ }
+{
+    if !pauli.is_pauli() {
+        return PhaseAnswer::Refused(3);
+    }
+    PhaseAnswer::Exponent(algebra::coefficient(pauli))
+}
+
+// True when the operator is Hermitian, that is its coefficient is real.
+pub fn pauli_squares_to_identity(pauli: PauliString) -> BitAnswer
+    ensures { λ r. ⌜ bitTold r ≡ squaresCall (pauliOf pauli) ⌝ }
+{
+    if !pauli.is_pauli() {
+        return BitAnswer::Refused(3);
+    }
+    BitAnswer::Bit(algebra::coefficient(pauli) % 2 == 0)
+}
+
+// The sign of a Hermitian Pauli: false for +P, true for -P.
+pub fn measurement_phase_sign(pauli: PauliString) -> BitAnswer
+    ensures { λ r. ⌜ bitTold r ≡ signCall (pauliOf pauli) ⌝ }
+{
+    if !pauli.is_pauli() {
+        return BitAnswer::Refused(3);
+    }
+    let coefficient = algebra::coefficient(pauli);
+    if coefficient % 2 != 0 {
+        return BitAnswer::Refused(7);
+    }
+    BitAnswer::Bit(coefficient == 2)
+}

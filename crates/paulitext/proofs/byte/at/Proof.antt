@@ -1,0 +1,97 @@
+use mathlib.Core.Path.{_≡_, refl, sym, ap, _∙_}
+use mathlib.Core.Bool.{true, false}
+use Prim.Native.Nat.{ℕ, _-_, _≤_, _<_}
+use native.Mathlib.Omega.{arith}
+use lib.ListN.{length}
+use Rattle.answers.specs.Answer.Answer.{accepted, refused}
+use Rattle.paulilaws.specs.Letter.{Letter, letterAt}
+use Rattle.paulis.specs.Calls.{getCall}
+use Rattle.paulis.specs.Strings.{pauliOf, letterTold, letterMeant}
+use Rattle.paulitext.specs.Text.{prefix, byteOf}
+use Rattle.paulitext.proofs.Bytes.{text-prefix, text-none, text-letter}
+use Rattle.paulitext.proofs.Walk.{got-letter}
+use borrow.Author.Needs.{needs}
+use Rattle.paulitext.proofs.byte.at.Statement.{statement}
+use Rattle.paulitext.proofs.byte.at.Tie as tie
+use Rattle.paulitext.proofs.byte.at.Reads as reads
+use Rattle.paulitext.proofs.byte.at.Lts as lts
+use Rattle.paulis.proofs.PauliString.get.Reads as get-reads
+use Rattle.paulitext.proofs.byte.of_letter.Reads as of-letter-reads
+use Rattle.paulitext.proofs.byte.prefix.Reads as prefix-reads
+use Rattle.paulitext.proofs.byte.prefix_len.Reads as prefix-len-reads
+
+prefix-len-requires : tie.Need-prefix-len-requires
+prefix-len-requires c κs = search needs
+
+prefix-requires : tie.Need-prefix-requires
+prefix-requires c κs = search needs
+
+never : {n : ℕ} {l : Letter} → refused n ≡ accepted l → ⊥
+never e = let z : _≡_ {A = ℕ} 0 1 = cc in omega arith
+
+returns : tie.Need-returns
+returns c =
+    let a = c .before .before .before .args in
+    let h : a .i < length (prefix (a .coefficient)) = omega (arith, c .before .before .prefix-len .ensures .0) in
+    c .prefix .ensures ∙ sym (text-prefix (a .coefficient) (a .pauli .nqubits) (a .i) (pauliOf (a .pauli)) h)
+
+returns-2 : tie.Need-returns-2
+returns-2 c =
+    let s = c .before .before .before .before in
+    let a = s .args in
+    let h : length (prefix (a .coefficient)) ≤ a .i = omega (arith, c .before .before .before .prefix-len .ensures .0) in
+    sym (text-none (a .coefficient) (a .pauli .nqubits) (a .i) (pauliOf (a .pauli)) h (s .pre .1) (c .if2 .taken))
+
+get-requires : tie.Need-get-requires
+get-requires c κs = search needs
+
+enum-known-letter : tie.Need-enum-known-letter
+enum-known-letter c = search needs
+
+of-letter-requires : tie.Need-of-letter-requires
+of-letter-requires c κs = search needs
+
+enum-told : tie.Need-enum-told
+enum-told c = search needs
+
+returns-3 : tie.Need-returns-3
+returns-3 c =
+    let s = c .before .before .before .before .before .before .before .before .before in
+    let a = s .args in
+    let P = pauliOf (a .pauli) in
+    let len = c .before .before .before .before .before .before .before .before .prefix-len .ensures .0 in
+    let h : length (prefix (a .coefficient)) ≤ a .i = omega (arith, c .before .before .before .before .before .before .before .if1 .left) in
+    let q : ℕ = a .i - length (prefix (a .coefficient)) in
+    let inside : q < a .pauli .nqubits = omega (arith, s .pre .1, c .before .before .before .before .before .if2 .left) in
+    let read = c .before .before .letter .given in
+    let told : accepted (letterMeant (read .0 .0)) ≡ accepted (letterAt q P)
+    = ap letterTold (sym (read .1)) ∙ c .before .before .before .before .get .ensures ∙ ap (λ (n : ℕ). getCall P (a .i - n)) len ∙ got-letter P q (s .pre .0) inside in
+    let same : letterMeant (read .0 .0) ≡ letterAt q P = cc in
+    c .of-letter .ensures ∙ ap byteOf same ∙ sym (text-letter (a .coefficient) (a .pauli .nqubits) (a .i) P h inside)
+
+returns-4 : tie.Need-returns-4
+returns-4 c =
+    let s = c .before .before .before .before .before .before .before in
+    let a = s .args in
+    let P = pauliOf (a .pauli) in
+    let len = c .before .before .before .before .before .before .prefix-len .ensures .0 in
+    let q : ℕ = a .i - length (prefix (a .coefficient)) in
+    let inside : q < a .pauli .nqubits = omega (arith, s .pre .1, c .before .before .before .if2 .left, c .before .before .before .before .before .if1 .left) in
+    let told : refused (c .enum-told .given .0 .0) ≡ accepted (letterAt q P)
+    = ap letterTold (sym (c .enum-told .given .1)) ∙ c .before .before .get .ensures ∙ ap (λ (n : ℕ). getCall P (a .i - n)) len ∙ got-letter P q (s .pre .0) inside in
+    absurd (never told)
+
+pub at-spec : {M : Type 1} → statement M
+at-spec =
+    tie.close
+    (tie.spec
+    prefix-len-requires
+    prefix-requires
+    returns
+    returns-2
+    get-requires
+    enum-known-letter
+    of-letter-requires
+    enum-told
+    returns-3
+    returns-4)

@@ -1,6 +1,6 @@
 -- The binary digits of a number, or of a mask: reading one, and writing one. Assumes nothing.
-use mathlib.Core.Path.{_≡_, refl, sym, ap, ap₂, _∙_, subst}
-use Prim.Native.Nat.{ℕ, zero, suc, _+_, _-_, _*_, _/_, _%_, _^_, _≤_, _<_}
+use mathlib.Core.Path.{_≡_, sym, ap, _∙_}
+use Prim.Native.Nat.{ℕ, suc, _+_, _-_, _*_, _/_, _%_, _^_, _≤_, _<_}
 use native.Mathlib.Nat.{mod-lt, zero-lt-suc, div-eq-of-lt, pow-suc, one-mul}
 use native.Mathlib.Omega.{arith}
 use lib.Arith.{digits-mod, mod-mul}

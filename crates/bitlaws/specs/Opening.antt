@@ -1,11 +1,11 @@
 -- A bit of a mask opened, and dropped, at any place. Assumes nothing.
-use mathlib.Core.Path.{_≡_, refl, sym, ap, ap₂, _∙_, subst}
-use Prim.Native.Nat.{ℕ, zero, suc, _+_, _-_, _*_, _/_, _%_, _^_, _≤_, _<_}
+use mathlib.Core.Path.{_≡_, ap, _∙_, subst}
+use Prim.Native.Nat.{ℕ, suc, _+_, _-_, _*_, _/_, _%_, _^_, _≤_, _<_}
 use native.Mathlib.Nat.{mod-lt, div-add-mod', mul-right-comm, pow-suc}
 use native.Mathlib.Omega.{arith}
 use lib.Arith.{digits-lt, digits-div, digits-mod}
 use lib.Pow.{pow-pos, pow-add, shr-lt}
-use Rattle.bitlaws.specs.Digit.{digit, put, mod-two}
+use Rattle.bitlaws.specs.Digit.{digit, put}
 
 -- j with a zero bit opened at p: the bits below p stay, the others move up one
 unfoldable pub openBit : ℕ → ℕ → ℕ

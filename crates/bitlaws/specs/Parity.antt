@@ -1,10 +1,10 @@
 -- Parity, and the parity of what two masks share, over masks of any width: linear in each. Assumes nothing.
-use mathlib.Core.Path.{_≡_, refl, sym, ap, ap₂, _∙_, subst}
-use Prim.Native.Nat.{ℕ, zero, suc, _+_, _*_, _/_, _%_, _^_, _≤_, _<_, min}
+use mathlib.Core.Path.{_≡_, sym, ap, ap₂, _∙_}
+use Prim.Native.Nat.{ℕ, zero, suc, _+_, _/_, _%_, _<_, min}
 use native.Mathlib.Nat.{zero-lt-suc, add-mod}
 use native.Mathlib.Omega.{arith}
 use lib.Arith.{bin-ind}
-use lib.Bits.{bitAnd, bitXor, differ, xor-shr, and-step, and-shr, and-comm, and-zero-l, and-zero-r}
+use lib.Bits.{bitAnd, bitXor, differ, xor-shr, and-step, and-shr, and-comm, and-zero-l}
 use lib.Count.{ones, ones-step, ones-le}
 use Rattle.bitlaws.specs.Digit.{mod-two}
 use Rattle.bitlaws.specs.Xor.{xor-odd}

@@ -1,16 +1,16 @@
 -- Writing a digit of a mask, at any place. Assumes nothing.
 use mathlib.Core.Path.{_≡_, refl, sym, ap, ap₂, _∙_, subst}
 use mathlib.Core.Logic.{⊎-elim}
-use Prim.Native.Nat.{ℕ, zero, suc, _+_, _-_, _*_, _/_, _%_, _^_, _≤_, _<_, min}
-use native.Mathlib.Nat.{mod-lt, div-add-mod', zero-lt-suc, pow-suc, mul-comm, mul-assoc, mul-right-comm, add-mul, mul-le-mul-right, add-zero}
+use Prim.Native.Nat.{ℕ, zero, suc, _+_, _-_, _*_, _/_, _%_, _^_, _<_, min}
+use native.Mathlib.Nat.{mod-lt, div-add-mod', pow-suc, mul-comm}
 use native.Mathlib.Omega.{arith}
 use lib.Arith.{digits-div, digits-mod, digits-lt}
-use lib.Bits.{bitAnd, bitOr, and-block, or-block, and-zero-r, or-zero-r, and-lt, and-shr, and-mod}
+use lib.Bits.{bitAnd, bitOr, and-block, or-block, or-zero-r, and-shr, and-mod}
 use lib.Count.{ones, ones-cat}
 use lib.Dec.{lit<}
-use lib.Pow.{pow-pos, pow-add, pow-lt, shr-lt, high, low}
+use lib.Pow.{pow-pos, pow-add, shr-lt, high, low}
 use Rattle.bitlaws.specs.Order.{lt-or-gt}
-use Rattle.bitlaws.specs.Digit.{digit, put, mod-two, digit-lt, digit-high, digit-low}
+use Rattle.bitlaws.specs.Digit.{digit, put, mod-two, digit-high, digit-low}
 
 ones-digit : (d : ℕ) → d < 2 → ones d ≡ d
 unfolding ones

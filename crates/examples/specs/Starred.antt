@@ -1,10 +1,9 @@
 -- The starred examples of the scope, one to a row, over the definitions that the open calls' promises cite. Assumes nothing.
 use mathlib.Core.Path.{_≡_, refl}
 use mathlib.Core.List.{List, [], _∷_}
-use Prim.Native.Nat.{ℕ, zero, suc}
+use Prim.Native.Nat.{ℕ}
 use lib.Count.{ones, onesIn}
-use lib.ListN.{length}
-use Rattle.answers.specs.Answer.{Answer, refuse, valueOr}
+use Rattle.answers.specs.Answer.{refuse, valueOr}
 use Rattle.answers.specs.Answer.Answer.{accepted}
 use Rattle.bitlaws.specs.Digit.{digit, put}
 use Rattle.bitlaws.specs.Opening.{openBit}

@@ -1,14 +1,14 @@
 -- What a Pauli does to a basis state, as Nielsen and Chuang have it: a phase, and another basis state. Assumes nothing.
-use mathlib.Core.Path.{_≡_, refl, sym, ap, ap₂, _∙_, subst}
-use mathlib.Core.Logic.{_⊎_, inl, inr, ⊎-elim, _↔_}
-use Prim.Native.Nat.{ℕ, zero, suc, _+_, _*_, _%_, _≤_, _<_}
+use mathlib.Core.Path.{_≡_, refl, sym, ap, _∙_}
+use mathlib.Core.Logic.{⊎-elim, _↔_}
+use Prim.Native.Nat.{ℕ, _+_, _*_, _%_, _<_}
 use native.Mathlib.Nat.{mod-add-mod, mod-lt, zero-lt-suc}
 use native.Mathlib.Omega.{arith}
 use lib.Bits.{bitXor, xor-comm, xor-zero-r}
 use Rattle.bitlaws.specs.Digit.{mod-two}
 use Rattle.bitlaws.specs.Order.{last-or-before}
 use Rattle.bitlaws.specs.Xor.{xor-assoc, xor-swap}
-use Rattle.bitlaws.specs.Parity.{overlap, overlap-lt, overlap-comm, overlap-xor-l, overlap-xor-r, overlap-zero-r}
+use Rattle.bitlaws.specs.Parity.{overlap, overlap-comm, overlap-xor-l, overlap-xor-r, overlap-zero-r}
 use Rattle.paulilaws.specs.Pauli.{Pauli, identity, product, anti}
 
 -- i^phase times basis state `basis`

@@ -1,17 +1,17 @@
 -- The algebra of Paulis: the identity is neutral, the product associates, and a Pauli is Hermitian exactly when its square is the identity. Assumes nothing.
-use mathlib.Core.Path.{_≡_, refl, sym, ap, ap₂, _∙_, subst}
+use mathlib.Core.Path.{_≡_, refl, sym, ap, _∙_}
 use mathlib.Core.Bool.{Bool, true, false, cond}
 use mathlib.Core.Logic.{_↔_}
-use Prim.Native.Nat.{ℕ, zero, suc, _+_, _*_, _/_, _%_, _≤_, _<_}
+use Prim.Native.Nat.{ℕ, zero, suc, _+_, _*_, _/_, _%_, _<_}
 use native.Mathlib.Nat.{zero-lt-suc}
 use native.Mathlib.Omega.{arith}
 use lib.Arith.{mod-mul}
-use lib.Bits.{bitAnd, xor-zero-l, xor-zero-r, xor-self, and-comm}
+use lib.Bits.{xor-zero-l, xor-zero-r, xor-self, and-comm}
 use lib.Count.{ones}
 use lib.Dec.{eqb}
-use borrow.Author.Tests.{eqb-true, eq-eqb, ne-eqb}
+use borrow.Author.Tests.{eqb-true, eq-eqb}
 use Rattle.bitlaws.specs.Xor.{xor-assoc}
-use Rattle.bitlaws.specs.Parity.{parity, overlap, overlap-comm, overlap-xor-l, overlap-xor-r, overlap-zero-l, overlap-zero-r}
+use Rattle.bitlaws.specs.Parity.{parity, overlap, overlap-xor-l, overlap-xor-r, overlap-zero-l, overlap-zero-r}
 use Rattle.paulilaws.specs.Pauli.{Pauli, identity, product, ys, coefficient, hermitian, sign, same}
 use Rattle.paulilaws.specs.Action.{half-turns-within}
 

@@ -1,14 +1,14 @@
 -- The highest qubit on which a Pauli is not the identity. Assumes nothing.
-use mathlib.Core.Path.{_≡_, refl, sym, ap, ap₂, _∙_, subst}
-use mathlib.Core.Logic.{_⊎_, inl, inr, ⊎-elim, _↔_}
+use mathlib.Core.Path.{_≡_, refl, sym, ap, ap₂, _∙_}
+use mathlib.Core.Logic.{_↔_}
 use mathlib.Core.Option.{Option, none, some}
-use Prim.Native.Nat.{ℕ, zero, suc, _+_, _*_, _/_, _%_, _^_, _≤_, _<_, max}
+use Prim.Native.Nat.{ℕ, zero, suc, _/_, _%_, _^_, _<_, max}
 use native.Mathlib.Omega.{arith}
 use lib.Bits.{bitOr, or-shr, or-step}
 use Rattle.bitlaws.specs.Digit.{digit, digit-lt, mod-two}
 use Rattle.bitlaws.specs.Highest.{highest, Top, highest-some, highest-none, highest-top, none-set}
 use Rattle.paulilaws.specs.Pauli.{Pauli}
-use Rattle.paulilaws.specs.Letter.{Letter, letterAt, letterOf}
+use Rattle.paulilaws.specs.Letter.{letterAt, letterOf}
 use Rattle.paulilaws.specs.Letter.{I}
 
 -- the highest qubit in x or z

@@ -1,7 +1,7 @@
 // Product, anticommutation and coefficient of Paulis whose fields were looked at.
 use crate::PauliString;
 ghost use mathlib.Core.Path.{_≡_};
-ghost use Prim.Native.Nat.{_≤_, _<_};
+ghost use Prim.Native.Nat.{_<_};
 ghost use lib.Dec.{eqb};
 ghost use Rattle.paulilaws.specs.Pauli as book;
 ghost use Rattle.paulis.specs.Strings.{pauliOf};

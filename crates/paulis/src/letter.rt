@@ -3,7 +3,6 @@ use crate::Pauli;
 use crate::PauliString;
 ghost use mathlib.Core.Path.{_≡_};
 ghost use Prim.Native.Nat.{_<_, _≤_};
-ghost use lib.Dec.{eqb};
 ghost use Rattle.paulilaws.specs.Letter as book;
 ghost use Rattle.bits.specs.Mask.{bitOf};
 ghost use Rattle.paulis.specs.Strings.{pauliOf, letterMeant};

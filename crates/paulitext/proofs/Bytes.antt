@@ -1,17 +1,17 @@
 -- The bytes of a text, one by one. Assumes nothing.
 use mathlib.Core.Path.{_≡_, refl, sym, ap, _∙_}
 use mathlib.Core.Logic.{_⊎_, inl, inr}
-use mathlib.Core.List.{List, [], _∷_, _++_}
+use mathlib.Core.List.{[], _∷_, _++_}
 use mathlib.Core.Option.{none}
 use Prim.Native.Nat.{ℕ, zero, suc, _+_, _-_, _≤_, _<_, max}
-use native.Mathlib.Nat.{add-zero, add-suc}
+use native.Mathlib.Nat.{add-zero}
 use native.Mathlib.Omega.{arith}
 use borrow.Author.Tests.{ne-eqb}
 use lib.ListN.{length, getD, length-append, List·getD-append}
 use lib.Seq.{getD-append-add}
-use Rattle.paulilaws.specs.Pauli.{Pauli, coefficient}
+use Rattle.paulilaws.specs.Pauli.{Pauli}
 use Rattle.paulilaws.specs.Letter.{letterAt}
-use Rattle.paulitext.specs.Text.{letterOfByte, prefix, byteOf, lettersFrom, body, shown}
+use Rattle.paulitext.specs.Text.{letterOfByte, prefix, byteOf, lettersFrom, body}
 
 -- ---- reading: a byte that is none of the eleven
 

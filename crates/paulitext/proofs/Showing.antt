@@ -1,17 +1,17 @@
 -- What showing a Pauli answers and leaves, from the tests that the code makes. Assumes nothing.
-use mathlib.Core.Path.{_≡_, refl, sym, ap, _∙_}
+use mathlib.Core.Path.{_≡_, sym, ap, _∙_}
 use mathlib.Core.Bool.{true, false}
 use mathlib.Core.List.{List, _++_}
 use Prim.Native.Nat.{ℕ, _+_, _≤_, _<_, max}
 use native.Mathlib.Omega.{arith}
 use borrow.Author.Tests.{lt-ltb, le-ltb}
 use lib.ListN.{length, drop}
-use Rattle.answers.specs.Answer.{Answer, refuse}
+use Rattle.answers.specs.Answer.{refuse}
 use Rattle.answers.specs.Answer.Answer.{accepted, refused}
 use Rattle.paulilaws.specs.Pauli.{Pauli, fits, coefficient}
 use Rattle.paulis.specs.Calls.{onPauli}
 use Rattle.paulitext.specs.Text.{prefix, body, shown}
-use Rattle.paulitext.specs.Calls.{Shown, showCall, bufferAfter, textTold}
+use Rattle.paulitext.specs.Calls.{Shown, showCall, bufferAfter}
 use Rattle.paulitext.specs.declared.TextAnswer.the-variants as text
 use Rattle.paulitext.proofs.Bytes.{text-length}
 

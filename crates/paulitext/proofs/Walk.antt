@@ -1,16 +1,16 @@
 -- The loops: a text read letter by letter into a Pauli, and a text written byte by byte into a buffer. Assumes nothing.
-use mathlib.Core.Path.{_≡_, refl, sym, ap, _∙_, subst}
-use mathlib.Core.Bool.{Bool, true, false, not}
-use mathlib.Core.List.{List, [], _∷_, _++_}
+use mathlib.Core.Path.{_≡_, refl, sym, ap, _∙_}
+use mathlib.Core.Bool.{Bool, true, false}
+use mathlib.Core.List.{List, _++_}
 use mathlib.Core.Option.{Option, none, some}
-use Prim.Native.Nat.{ℕ, zero, suc, _+_, _≤_, _<_}
+use Prim.Native.Nat.{ℕ, suc, _+_, _≤_, _<_}
 use native.Mathlib.Nat.{zero-add}
 use native.Mathlib.Numerals.{add-one}
 use native.Mathlib.Omega.{arith}
-use lib.ListN.{length, getD, drop, take, set, drop-of-length-le}
+use lib.ListN.{length, getD, drop, set, drop-of-length-le}
 use lib.Seq.{drop-cons, paste, paste-zero, paste-suc, take-length}
 use borrow.Author.Tests.{le-ltb}
-use Rattle.answers.specs.Answer.{Answer, refuse, valueOr}
+use Rattle.answers.specs.Answer.{refuse, valueOr}
 use Rattle.answers.specs.Answer.Answer.{accepted, refused, refusedAt}
 use Rattle.paulilaws.specs.Pauli.{Pauli, fits, identity}
 use Rattle.paulilaws.specs.Letter.{Letter, letterAt, withLetter}

@@ -2,7 +2,6 @@
 use mathlib.Core.Path.{_≡_, refl, sym, ap, _∙_, subst}
 use mathlib.Core.Bool.{Bool, true, false}
 use mathlib.Core.List.{List, [], _∷_}
-use mathlib.Core.Logic.{⊎-elim}
 use mathlib.Core.Option.{Option, none, some}
 use Prim.Native.Nat.{ℕ, zero, suc, _+_, _≤_, _<_}
 use native.Mathlib.Nat.{add-zero, zero-add}
@@ -12,9 +11,8 @@ use lib.Count.{ones}
 use lib.Dec.{ltb}
 use borrow.Author.Tests.{ltb-false}
 use lib.ListN.{length, getD}
-use Rattle.answers.specs.Answer.{Answer, refuse}
+use Rattle.answers.specs.Answer.{refuse}
 use Rattle.answers.specs.Answer.Answer.{accepted, refused, refusedAt}
-use Rattle.bitlaws.specs.Order.{last-or-before}
 use Rattle.bitlaws.specs.Parity.{ones-zero}
 use Rattle.paulilaws.specs.Pauli.{Pauli, identity, coefficient, ys}
 use Rattle.paulilaws.specs.Letter.{Letter, letterAt, withLetter, letter-set, letter-kept, coefficient-kept}

@@ -1,13 +1,12 @@
 -- Pauli strings as text, bytes being ASCII codes. Assumes nothing.
-use mathlib.Core.Bool.{Bool, true, false, cond, _||_}
+use mathlib.Core.Bool.{cond, _||_}
 use mathlib.Core.List.{List, [], _∷_, _++_}
 use mathlib.Core.Option.{Option, none, some}
 use Prim.Native.Nat.{ℕ, zero, suc}
-use lib.Dec.{eqb, ltb}
-use lib.ListN.{length}
-use Rattle.answers.specs.Answer.{Answer, refuse}
+use lib.Dec.{eqb}
+use Rattle.answers.specs.Answer.{Answer}
 use Rattle.answers.specs.Answer.Answer.{accepted, refusedAt}
-use Rattle.paulilaws.specs.Pauli.{Pauli, identity, coefficient, mostQubits}
+use Rattle.paulilaws.specs.Pauli.{Pauli, coefficient}
 use Rattle.paulilaws.specs.Letter.{Letter, letterAt, withLetter}
 
 -- I, i and _; X and x; Y and y; Z and z

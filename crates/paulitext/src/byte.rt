@@ -60,7 +60,7 @@ pub(crate) fn text_len(coefficient: u8, nqubits: usize) -> usize
 }
 
 // Byte i of the coefficient: nothing, `i*`, `-` or `-i*`.
-fn prefix(coefficient: u8, i: usize) -> u8
+fn prefix_byte(coefficient: u8, i: usize) -> u8
     requires { ⌜ i < length (prefix coefficient) ⌝ }
     ensures { λ r. ⌜ r ≡ getD (prefix coefficient) i 0 ⌝ }
 {
@@ -81,7 +81,7 @@ fn at(pauli: PauliString, coefficient: u8, i: usize) -> u8
 {
     let before = prefix_len(coefficient);
     if i < before {
-        return prefix(coefficient, i);
+        return prefix_byte(coefficient, i);
     }
     if pauli.nqubits == 0 {
         return b'I';

@@ -1,5 +1,5 @@
 use mathlib.Core.Path.{_≡_, ap}
-use Prim.Native.Nat.{ℕ, _*_, _%_, _^_, _<_}
+use Prim.Native.Nat.{_*_, _%_, _^_}
 use native.Mathlib.Omega.{arith}
 use borrow.Author.Needs.{needs}
 use borrow.Author.Tests.{lt-ltb, le-ltb}
@@ -11,8 +11,6 @@ use Rattle.bits.specs.Opening.{opening}
 use Rattle.bits.proofs.Index.{opened}
 use Rattle.bits.proofs.insert_zero_bit.Statement.{statement}
 use Rattle.bits.proofs.insert_zero_bit.Tie as tie
-use Rattle.bits.proofs.insert_zero_bit.Reads as reads
-use Rattle.bits.proofs.insert_zero_bit.Lts as lts
 
 returns : tie.Need-returns
 unfolding opening refuse

@@ -1,6 +1,5 @@
 use mathlib.Core.Path.{sym, ap, _∙_}
 use Rattle.answers.specs.Answer.Answer.{accepted}
-use Prim.Native.Nat.{ℕ, _%_}
 use Rattle.paulis.specs.Calls.{coefficientCall}
 use Rattle.paulis.specs.Rows.{no-pauli, a-pauli}
 use Rattle.paulilaws.specs.Pauli.{coefficient}
@@ -8,10 +7,6 @@ use Rattle.paulis.specs.Strings.{pauliOf}
 use borrow.Author.Needs.{needs}
 use Rattle.paulis.proofs.coefficient_phase.Statement.{statement}
 use Rattle.paulis.proofs.coefficient_phase.Tie as tie
-use Rattle.paulis.proofs.coefficient_phase.Reads as reads
-use Rattle.paulis.proofs.coefficient_phase.Lts as lts
-use Rattle.paulis.proofs.PauliString.is_pauli.Reads as is-pauli-reads
-use Rattle.paulis.proofs.algebra.coefficient.Reads as coefficient-reads
 
 is-pauli-requires : tie.Need-is-pauli-requires
 is-pauli-requires c κs = search needs

@@ -8,10 +8,6 @@ use Rattle.paulis.specs.Strings.{pauliOf}
 use borrow.Author.Needs.{needs}
 use Rattle.paulis.proofs.pauli_anticommutes.Statement.{statement}
 use Rattle.paulis.proofs.pauli_anticommutes.Tie as tie
-use Rattle.paulis.proofs.pauli_anticommutes.Reads as reads
-use Rattle.paulis.proofs.pauli_anticommutes.Lts as lts
-use Rattle.paulis.proofs.PauliString.is_pauli.Reads as is-pauli-reads
-use Rattle.paulis.proofs.algebra.anticommute.Reads as anticommute-reads
 
 is-pauli-requires : tie.Need-is-pauli-requires
 is-pauli-requires c κs = search needs

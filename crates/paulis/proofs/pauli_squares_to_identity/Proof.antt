@@ -9,10 +9,6 @@ use Rattle.paulis.specs.Strings.{pauliOf}
 use borrow.Author.Needs.{needs}
 use Rattle.paulis.proofs.pauli_squares_to_identity.Statement.{statement}
 use Rattle.paulis.proofs.pauli_squares_to_identity.Tie as tie
-use Rattle.paulis.proofs.pauli_squares_to_identity.Reads as reads
-use Rattle.paulis.proofs.pauli_squares_to_identity.Lts as lts
-use Rattle.paulis.proofs.PauliString.is_pauli.Reads as is-pauli-reads
-use Rattle.paulis.proofs.algebra.coefficient.Reads as coefficient-reads
 
 is-pauli-requires : tie.Need-is-pauli-requires
 is-pauli-requires c κs = search needs

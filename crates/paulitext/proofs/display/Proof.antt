@@ -1,7 +1,5 @@
-use mathlib.Core.Path.{_≡_, sym, ap, _∙_}
-use mathlib.Core.Bool.{true}
-use native.Mathlib.Omega.{arith}
-use Rattle.paulilaws.specs.Pauli.{fits, coefficient}
+use mathlib.Core.Path.{sym, ap, _∙_}
+use Rattle.paulilaws.specs.Pauli.{coefficient}
 use Rattle.paulilaws.specs.Fitting.{fits-fitting}
 use Rattle.paulis.specs.Calls.{coefficientCall}
 use Rattle.paulis.specs.Strings.{pauliOf, phaseTold}
@@ -10,11 +8,6 @@ use Rattle.paulitext.proofs.Showing.{shown-no-pauli, shown-short, shown
 use borrow.Author.Needs.{needs}
 use Rattle.paulitext.proofs.display.Statement.{statement}
 use Rattle.paulitext.proofs.display.Tie as tie
-use Rattle.paulitext.proofs.display.Reads as reads
-use Rattle.paulitext.proofs.display.Lts as lts
-use Rattle.paulis.proofs.coefficient_phase.Reads as coefficient-phase-reads
-use Rattle.paulitext.proofs.byte.text_len.Reads as text-len-reads
-use Rattle.paulitext.proofs.byte.write.Reads as write-reads
 
 coefficient-phase-requires : tie.Need-coefficient-phase-requires
 coefficient-phase-requires c κs = search needs

@@ -1,27 +1,19 @@
 use mathlib.Core.Path.{_≡_, sym, ap, _∙_, subst}
-use Prim.Native.Nat.{ℕ, _+_, _-_, _≤_, _<_}
+use Prim.Native.Nat.{_+_, _-_, _<_}
 use native.Mathlib.Omega.{arith}
 use borrow.Author.Needs.{needs}
 use borrow.Author.Tests.{lt-ltb, le-ltb}
 use lib.ListN.{length, getD}
 use mathlib.Core.Option.{none, some}
 use Rattle.answers.specs.Answer.{refuse}
-use Rattle.paulilaws.specs.Pauli.{Pauli, identity}
+use Rattle.paulilaws.specs.Pauli.{Pauli}
 use Rattle.paulilaws.specs.Fitting.{identity-fitting}
 use Rattle.paulis.specs.Strings.{pauliOf, letterTold, letterMeant}
-use Rattle.paulitext.specs.Calls.{Read, readCall}
+use Rattle.paulitext.specs.Calls.{readCall}
 use Rattle.paulitext.proofs.Walk.{Reached, letter-some, letter-none, reached-start, reached-end, reached-none, reached-next, made-identity, made-set}
 use Rattle.paulitext.specs.Text.{letterOfByte}
 use Rattle.paulitext.proofs.pauli_string.Statement.{statement}
 use Rattle.paulitext.proofs.pauli_string.Tie as tie
-use Rattle.paulitext.proofs.pauli_string.Reads as reads
-use Rattle.paulitext.proofs.pauli_string.Lts as lts
-use Rattle.paulis.proofs.PauliString.set.Reads as set-reads
-use Rattle.paulis.proofs.pauli_identity.Reads as pauli-identity-reads
-use Rattle.paulitext.proofs.answer.done.Reads as done-reads
-use Rattle.paulitext.proofs.answer.refused.Reads as refused-reads
-use Rattle.paulitext.proofs.answer.refused_at.Reads as refused-at-reads
-use Rattle.paulitext.proofs.byte.letter.Reads as letter-reads
 
 abbrev Inv-loop : tie.InvT-loop
 Inv-loop ops pauli₀ q₀ pauli q = Reached ops q (pauliOf pauli)

@@ -1,6 +1,6 @@
 use Prim.Native.Nat.{ℕ, _^_}
 use lib.Dec.{ltb}
-use mathlib.Core.Path.{_≡_, ap, ap₂, _∙_}
+use mathlib.Core.Path.{ap, _∙_}
 use lib.ListN.{getD}
 use mir.Val.{Fits}
 use mir.Syntax.{w64}
@@ -8,10 +8,6 @@ use Rattle.bits.specs.MaskLaws.{Small, mask-below}
 use borrow.Author.Needs.{needs}
 use Rattle.bits.proofs.mask.mask_fits.Statement.{statement}
 use Rattle.bits.proofs.mask.mask_fits.Tie as tie
-use Rattle.bits.proofs.mask.mask_fits.Reads as reads
-use Rattle.bits.proofs.mask.mask_fits.Lts as lts
-use Rattle.bits.proofs.mask.above.Reads as above-reads
-use Rattle.bits.proofs.mask.word_fits.Reads as word-fits-reads
 
 array-read-word-fits : tie.Need-array-read-word-fits
 array-read-word-fits c = search needs

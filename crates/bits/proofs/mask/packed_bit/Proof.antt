@@ -10,8 +10,6 @@ use Rattle.bits.specs.MaskLaws.{Small, mask-lt, mask-digit}
 use borrow.Author.Needs.{needs}
 use Rattle.bits.proofs.mask.packed_bit.Statement.{statement}
 use Rattle.bits.proofs.mask.packed_bit.Tie as tie
-use Rattle.bits.proofs.mask.packed_bit.Reads as reads
-use Rattle.bits.proofs.mask.packed_bit.Lts as lts
 
 returns : tie.Need-returns
 returns c =

@@ -1,5 +1,4 @@
 use mathlib.Core.Path.{_≡_, sym, _∙_}
-use Prim.Native.Nat.{ℕ}
 use lib.ListN.{length, getD}
 use mir.Val.{Fits}
 use mir.Syntax.{w64}
@@ -8,9 +7,6 @@ use Rattle.bits.specs.MaskLaws.{Small, mask-put, written-past, written-i
 use borrow.Author.Needs.{needs}
 use Rattle.bits.proofs.mask.set_packed_bit.Statement.{statement}
 use Rattle.bits.proofs.mask.set_packed_bit.Tie as tie
-use Rattle.bits.proofs.mask.set_packed_bit.Reads as reads
-use Rattle.bits.proofs.mask.set_packed_bit.Lts as lts
-use Rattle.bits.proofs.mask.word_with_bit.Reads as word-with-bit-reads
 
 returns : tie.Need-returns
 returns c = sym (written-past (c .before .args .bit-index) (c .before .args .value) (mask (c .before .args .t1)) (c .if1 .taken))

@@ -4,8 +4,6 @@ use lib.Count.{ones-le}
 use borrow.Author.Needs.{needs}
 use Rattle.bits.proofs.mask.shared_in_word.Statement.{statement}
 use Rattle.bits.proofs.mask.shared_in_word.Tie as tie
-use Rattle.bits.proofs.mask.shared_in_word.Reads as reads
-use Rattle.bits.proofs.mask.shared_in_word.Lts as lts
 
 returns : tie.Need-returns
 returns c = (refl, ones-le 64 (bitAnd (c .args .a) (c .args .b)) (and-lt 64 (c .args .a) (c .args .b) (search needs) (search needs)))

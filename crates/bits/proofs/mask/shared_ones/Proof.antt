@@ -6,9 +6,6 @@ use Rattle.bits.specs.MaskLaws.{Small, mask-ones}
 use borrow.Author.Needs.{needs}
 use Rattle.bits.proofs.mask.shared_ones.Statement.{statement}
 use Rattle.bits.proofs.mask.shared_ones.Tie as tie
-use Rattle.bits.proofs.mask.shared_ones.Reads as reads
-use Rattle.bits.proofs.mask.shared_ones.Lts as lts
-use Rattle.bits.proofs.mask.shared_in_word.Reads as shared-in-word-reads
 
 array-read-shared-in-word : tie.Need-array-read-shared-in-word
 array-read-shared-in-word c = search needs

@@ -7,8 +7,6 @@ use Rattle.bits.specs.MaskLaws.{shifted-below}
 use borrow.Author.Needs.{needs}
 use Rattle.bits.proofs.mask.word_fits.Statement.{statement}
 use Rattle.bits.proofs.mask.word_fits.Tie as tie
-use Rattle.bits.proofs.mask.word_fits.Reads as reads
-use Rattle.bits.proofs.mask.word_fits.Lts as lts
 
 returns : tie.Need-returns
 returns c =

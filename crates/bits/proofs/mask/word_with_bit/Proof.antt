@@ -1,14 +1,11 @@
-use mathlib.Core.Path.{_≡_, ap, _∙_}
+use mathlib.Core.Path.{_≡_}
 use native.Mathlib.Omega.{arith}
-use Prim.Native.Nat.{ℕ, _*_, _%_, _^_}
-use lib.Bits.{bitOr}
-use Rattle.bitlaws.specs.Digit.{put, one-shifted}
+use Prim.Native.Nat.{_*_, _%_, _^_}
+use Rattle.bitlaws.specs.Digit.{one-shifted}
 use Rattle.bitlaws.specs.Writing.{or-put, put-one}
 use borrow.Author.Needs.{needs}
 use Rattle.bits.proofs.mask.word_with_bit.Statement.{statement}
 use Rattle.bits.proofs.mask.word_with_bit.Tie as tie
-use Rattle.bits.proofs.mask.word_with_bit.Reads as reads
-use Rattle.bits.proofs.mask.word_with_bit.Lts as lts
 
 shl-one : tie.Need-shl-one
 shl-one c = search needs

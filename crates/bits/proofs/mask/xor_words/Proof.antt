@@ -5,8 +5,6 @@ use Rattle.bits.specs.MaskLaws.{Small, mask-xor}
 use borrow.Author.Needs.{needs}
 use Rattle.bits.proofs.mask.xor_words.Statement.{statement}
 use Rattle.bits.proofs.mask.xor_words.Tie as tie
-use Rattle.bits.proofs.mask.xor_words.Reads as reads
-use Rattle.bits.proofs.mask.xor_words.Lts as lts
 
 array-read-t7 : tie.Need-array-read-t7
 array-read-t7 c = search needs

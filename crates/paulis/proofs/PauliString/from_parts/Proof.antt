@@ -5,11 +5,6 @@ use Rattle.paulis.specs.Strings.{pauliOf}
 use borrow.Author.Needs.{needs}
 use Rattle.paulis.proofs.PauliString.from_parts.Statement.{statement}
 use Rattle.paulis.proofs.PauliString.from_parts.Tie as tie
-use Rattle.paulis.proofs.PauliString.from_parts.Reads as reads
-use Rattle.paulis.proofs.PauliString.from_parts.Lts as lts
-use Rattle.paulis.proofs.PauliString.is_pauli.Reads as is-pauli-reads
-use Rattle.paulis.proofs.answer.done.Reads as done-reads
-use Rattle.paulis.proofs.answer.refused.Reads as refused-reads
 
 is-pauli-requires : tie.Need-is-pauli-requires
 is-pauli-requires c κs = search needs

@@ -7,10 +7,6 @@ use Rattle.paulis.specs.Strings.{pauliOf}
 use borrow.Author.Needs.{needs}
 use Rattle.paulis.proofs.PauliString.get.Statement.{statement}
 use Rattle.paulis.proofs.PauliString.get.Tie as tie
-use Rattle.paulis.proofs.PauliString.get.Reads as reads
-use Rattle.paulis.proofs.PauliString.get.Lts as lts
-use Rattle.paulis.proofs.PauliString.is_pauli.Reads as is-pauli-reads
-use Rattle.paulis.proofs.letter.at.Reads as at-reads
 
 is-pauli-requires : tie.Need-is-pauli-requires
 is-pauli-requires c κs = search needs

@@ -1,15 +1,8 @@
-use mathlib.Core.Path.{_≡_, refl, sym, ap, ap₂, _∙_}
-use Prim.Native.Nat.{ℕ, _^_}
-use mathlib.Core.Bool.{Bool, true, false, _&&_}
-use lib.Dec.{leb, ltb}
 use borrow.Author.Tests.{le-leb, lt-leb}
 use Rattle.paulilaws.specs.Pauli.{fits}
 use borrow.Author.Needs.{needs}
 use Rattle.paulis.proofs.PauliString.is_pauli.Statement.{statement}
 use Rattle.paulis.proofs.PauliString.is_pauli.Tie as tie
-use Rattle.paulis.proofs.PauliString.is_pauli.Reads as reads
-use Rattle.paulis.proofs.PauliString.is_pauli.Lts as lts
-use Rattle.bits.proofs.mask.mask_fits.Reads as mask-fits-reads
 
 returns : tie.Need-returns
 unfolding fits

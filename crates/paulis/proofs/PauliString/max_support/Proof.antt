@@ -9,10 +9,6 @@ use Rattle.paulis.specs.Strings.{pauliOf}
 use borrow.Author.Needs.{needs}
 use Rattle.paulis.proofs.PauliString.max_support.Statement.{statement}
 use Rattle.paulis.proofs.PauliString.max_support.Tie as tie
-use Rattle.paulis.proofs.PauliString.max_support.Reads as reads
-use Rattle.paulis.proofs.PauliString.max_support.Lts as lts
-use Rattle.paulis.proofs.PauliString.is_pauli.Reads as is-pauli-reads
-use Rattle.paulis.proofs.support.highest_bit.Reads as highest-bit-reads
 
 is-pauli-requires : tie.Need-is-pauli-requires
 is-pauli-requires c κs = search needs

@@ -7,12 +7,6 @@ use Rattle.paulis.specs.Strings.{pauliOf, Made}
 use borrow.Author.Needs.{needs}
 use Rattle.paulis.proofs.PauliString.mul.Statement.{statement}
 use Rattle.paulis.proofs.PauliString.mul.Tie as tie
-use Rattle.paulis.proofs.PauliString.mul.Reads as reads
-use Rattle.paulis.proofs.PauliString.mul.Lts as lts
-use Rattle.paulis.proofs.PauliString.is_pauli.Reads as is-pauli-reads
-use Rattle.paulis.proofs.algebra.times.Reads as times-reads
-use Rattle.paulis.proofs.answer.done.Reads as done-reads
-use Rattle.paulis.proofs.answer.refused.Reads as refused-reads
 
 is-pauli-requires : tie.Need-is-pauli-requires
 is-pauli-requires c κs = search needs

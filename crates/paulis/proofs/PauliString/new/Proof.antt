@@ -8,11 +8,6 @@ use Rattle.paulis.specs.Strings.{Made}
 use borrow.Author.Needs.{needs}
 use Rattle.paulis.proofs.PauliString.new.Statement.{statement}
 use Rattle.paulis.proofs.PauliString.new.Tie as tie
-use Rattle.paulis.proofs.PauliString.new.Reads as reads
-use Rattle.paulis.proofs.PauliString.new.Lts as lts
-use Rattle.paulis.proofs.answer.done.Reads as done-reads
-use Rattle.paulis.proofs.answer.identity.Reads as identity-reads
-use Rattle.paulis.proofs.answer.refused.Reads as refused-reads
 
 refused-requires : tie.Need-refused-requires
 refused-requires c κs = search needs

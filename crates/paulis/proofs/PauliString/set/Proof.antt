@@ -9,12 +9,6 @@ use native.Mathlib.Omega.{arith}
 use borrow.Author.Needs.{needs}
 use Rattle.paulis.proofs.PauliString.set.Statement.{statement}
 use Rattle.paulis.proofs.PauliString.set.Tie as tie
-use Rattle.paulis.proofs.PauliString.set.Reads as reads
-use Rattle.paulis.proofs.PauliString.set.Lts as lts
-use Rattle.paulis.proofs.PauliString.is_pauli.Reads as is-pauli-reads
-use Rattle.paulis.proofs.answer.done.Reads as done-reads
-use Rattle.paulis.proofs.answer.refused.Reads as refused-reads
-use Rattle.paulis.proofs.letter.with.Reads as with-reads
 
 is-pauli-requires : tie.Need-is-pauli-requires
 is-pauli-requires c κs = search needs

@@ -8,10 +8,6 @@ use Rattle.paulis.specs.Strings.{pauliOf}
 use borrow.Author.Needs.{needs}
 use Rattle.paulis.proofs.PauliString.z_bit.Statement.{statement}
 use Rattle.paulis.proofs.PauliString.z_bit.Tie as tie
-use Rattle.paulis.proofs.PauliString.z_bit.Reads as reads
-use Rattle.paulis.proofs.PauliString.z_bit.Lts as lts
-use Rattle.paulis.proofs.PauliString.is_pauli.Reads as is-pauli-reads
-use Rattle.bits.proofs.mask.packed_bit.Reads as packed-bit-reads
 
 is-pauli-requires : tie.Need-is-pauli-requires
 is-pauli-requires c κs = search needs

@@ -1,7 +1,7 @@
 use lib.Bits.{bitAnd}
 use lib.Count.{ones}
 use Rattle.bits.specs.Mask.{mask}
-use mathlib.Core.Path.{_≡_, ap, ap₂, _∙_}
+use mathlib.Core.Path.{ap, ap₂, _∙_}
 use Prim.Native.Nat.{ℕ, _+_, _%_}
 use native.Mathlib.Nat.{add-mod}
 use lib.Dec.{eqb}
@@ -10,9 +10,6 @@ use Rattle.paulilaws.specs.Pauli.{anti}
 use borrow.Author.Needs.{needs}
 use Rattle.paulis.proofs.algebra.anticommute.Statement.{statement}
 use Rattle.paulis.proofs.algebra.anticommute.Tie as tie
-use Rattle.paulis.proofs.algebra.anticommute.Reads as reads
-use Rattle.paulis.proofs.algebra.anticommute.Lts as lts
-use Rattle.bits.proofs.mask.shared_ones.Reads as shared-ones-reads
 
 shared-ones-requires : tie.Need-shared-ones-requires
 shared-ones-requires c κs = search needs

@@ -2,10 +2,6 @@ use Rattle.paulilaws.specs.Pauli.{coefficient, ys}
 use borrow.Author.Needs.{needs}
 use Rattle.paulis.proofs.algebra.coefficient.Statement.{statement}
 use Rattle.paulis.proofs.algebra.coefficient.Tie as tie
-use Rattle.paulis.proofs.algebra.coefficient.Reads as reads
-use Rattle.paulis.proofs.algebra.coefficient.Lts as lts
-use Rattle.paulis.proofs.algebra.wide.Reads as wide-reads
-use Rattle.bits.proofs.mask.shared_ones.Reads as shared-ones-reads
 
 wide-requires : tie.Need-wide-requires
 wide-requires c κs = search needs

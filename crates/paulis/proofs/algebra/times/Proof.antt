@@ -1,15 +1,9 @@
-use mathlib.Core.Path.{_≡_, refl, ap, ap₂, _∙_}
-use Prim.Native.Nat.{ℕ, _+_, _*_, _%_}
+use mathlib.Core.Path.{refl}
 use Rattle.bitlaws.specs.Parity.{overlap, parity}
 use Rattle.paulilaws.specs.Pauli.{same, product}
 use borrow.Author.Needs.{needs}
 use Rattle.paulis.proofs.algebra.times.Statement.{statement}
 use Rattle.paulis.proofs.algebra.times.Tie as tie
-use Rattle.paulis.proofs.algebra.times.Reads as reads
-use Rattle.paulis.proofs.algebra.times.Lts as lts
-use Rattle.paulis.proofs.algebra.wide.Reads as wide-reads
-use Rattle.bits.proofs.mask.shared_ones.Reads as shared-ones-reads
-use Rattle.bits.proofs.mask.xor_words.Reads as xor-words-reads
 
 shared-ones-requires : tie.Need-shared-ones-requires
 shared-ones-requires c κs = search needs

@@ -3,8 +3,6 @@ use Rattle.bitlaws.specs.Words.{words}
 use Rattle.bits.specs.Mask.{mask}
 use Rattle.paulis.proofs.answer.identity.Statement.{statement}
 use Rattle.paulis.proofs.answer.identity.Tie as tie
-use Rattle.paulis.proofs.answer.identity.Reads as reads
-use Rattle.paulis.proofs.answer.identity.Lts as lts
 
 returns : tie.Need-returns
 unfolding mask words

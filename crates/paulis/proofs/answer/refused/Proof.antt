@@ -3,9 +3,6 @@ use Rattle.answers.specs.Answer.{valueOr}
 use borrow.Author.Needs.{needs}
 use Rattle.paulis.proofs.answer.refused.Statement.{statement}
 use Rattle.paulis.proofs.answer.refused.Tie as tie
-use Rattle.paulis.proofs.answer.refused.Reads as reads
-use Rattle.paulis.proofs.answer.refused.Lts as lts
-use Rattle.paulis.proofs.answer.identity.Reads as identity-reads
 
 identity-requires : tie.Need-identity-requires
 identity-requires c κs = search needs

@@ -1,6 +1,5 @@
-use mathlib.Core.Path.{ap, ap₂, _∙_}
+use mathlib.Core.Path.{ap₂, _∙_}
 use mathlib.Core.Bool.{Bool}
-use Prim.Native.Nat.{ℕ}
 use Rattle.bitlaws.specs.Digit.{digit, digit-lt}
 use Rattle.paulilaws.specs.Letter.{letterAt, letterOf}
 use Rattle.bits.specs.Mask.{mask, bitOf}
@@ -8,10 +7,6 @@ use Rattle.bits.specs.MaskLaws.{bit-of}
 use borrow.Author.Needs.{needs}
 use Rattle.paulis.proofs.letter.at.Statement.{statement}
 use Rattle.paulis.proofs.letter.at.Tie as tie
-use Rattle.paulis.proofs.letter.at.Reads as reads
-use Rattle.paulis.proofs.letter.at.Lts as lts
-use Rattle.paulis.proofs.letter.from_bits.Reads as from-bits-reads
-use Rattle.bits.proofs.mask.packed_bit.Reads as packed-bit-reads
 
 packed-bit-requires : tie.Need-packed-bit-requires
 packed-bit-requires c κs = search needs

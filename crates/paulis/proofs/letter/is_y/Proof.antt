@@ -1,12 +1,7 @@
-use mathlib.Core.Path.{refl, sym, ap}
 use native.Mathlib.Omega.{arith}
-use Rattle.paulilaws.specs.Letter.{isY}
-use Rattle.paulis.specs.Strings.{letterMeant}
 use borrow.Author.Needs.{needs}
 use Rattle.paulis.proofs.letter.is_y.Statement.{statement}
 use Rattle.paulis.proofs.letter.is_y.Tie as tie
-use Rattle.paulis.proofs.letter.is_y.Reads as reads
-use Rattle.paulis.proofs.letter.is_y.Lts as lts
 
 enum-told : tie.Need-enum-told
 enum-told c = search needs

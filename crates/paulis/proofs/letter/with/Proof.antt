@@ -1,4 +1,4 @@
-use mathlib.Core.Path.{_≡_, refl, ap, ap₂, _∙_}
+use mathlib.Core.Path.{refl, ap, ap₂, _∙_}
 use Prim.Native.Nat.{ℕ, _+_, _*_, _%_}
 use Rattle.bitlaws.specs.Digit.{put}
 use Rattle.paulilaws.specs.Pauli.{same}
@@ -8,13 +8,6 @@ use Rattle.bits.specs.MaskLaws.{written-inside}
 use borrow.Author.Needs.{needs}
 use Rattle.paulis.proofs.letter.with.Statement.{statement}
 use Rattle.paulis.proofs.letter.with.Tie as tie
-use Rattle.paulis.proofs.letter.with.Reads as reads
-use Rattle.paulis.proofs.letter.with.Lts as lts
-use Rattle.paulis.proofs.letter.at.Reads as at-reads
-use Rattle.paulis.proofs.letter.is_y.Reads as is-y-reads
-use Rattle.paulis.proofs.letter.x_part.Reads as x-part-reads
-use Rattle.paulis.proofs.letter.z_part.Reads as z-part-reads
-use Rattle.bits.proofs.mask.set_packed_bit.Reads as set-packed-bit-reads
 
 at-requires : tie.Need-at-requires
 at-requires c κs = search needs

@@ -1,7 +1,7 @@
 use mathlib.Core.Path.{_≡_, sym, ap, _∙_, subst}
 use mathlib.Core.Logic.{⊎-elim}
 use mathlib.Core.Option.{some}
-use Prim.Native.Nat.{ℕ, suc, _+_, _-_, _*_, _^_, _≤_, _<_}
+use Prim.Native.Nat.{ℕ, suc, _-_, _*_, _^_, _≤_, _<_}
 use native.Mathlib.Omega.{arith}
 use borrow.Author.Needs.{needs}
 use lib.Bits.{bitOr}
@@ -14,9 +14,6 @@ use Rattle.bits.specs.Mask.{mask}
 use Rattle.bits.specs.MaskLaws.{Small, or-below, word-empty, word-leading, word-top, none-top}
 use Rattle.paulis.proofs.support.highest_bit.Statement.{statement}
 use Rattle.paulis.proofs.support.highest_bit.Tie as tie
-use Rattle.paulis.proofs.support.highest_bit.Reads as reads
-use Rattle.paulis.proofs.support.highest_bit.Lts as lts
-use Rattle.paulis.proofs.support.either.Reads as either-reads
 
 abbrev Inv-loop : tie.InvT-loop
 Inv-loop x z word₀ word = (word ≤ 4) × (bitOr (mask x) (mask z) < 2 ^ (word * 64))

@@ -2,8 +2,6 @@ use mathlib.Core.Path.{refl}
 use Rattle.answers.specs.Answer.{valueOr}
 use Rattle.paulitext.proofs.answer.done.Statement.{statement}
 use Rattle.paulitext.proofs.answer.done.Tie as tie
-use Rattle.paulitext.proofs.answer.done.Reads as reads
-use Rattle.paulitext.proofs.answer.done.Lts as lts
 
 returns : tie.Need-returns
 unfolding valueOr

@@ -1,5 +1,4 @@
-use mathlib.Core.Path.{_≡_, refl, sym, ap, _∙_}
-use mathlib.Core.Bool.{true, false}
+use mathlib.Core.Path.{_≡_, sym, ap, _∙_}
 use Prim.Native.Nat.{ℕ, _-_, _≤_, _<_}
 use native.Mathlib.Omega.{arith}
 use lib.ListN.{length}
@@ -13,18 +12,12 @@ use Rattle.paulitext.proofs.Walk.{got-letter}
 use borrow.Author.Needs.{needs}
 use Rattle.paulitext.proofs.byte.at.Statement.{statement}
 use Rattle.paulitext.proofs.byte.at.Tie as tie
-use Rattle.paulitext.proofs.byte.at.Reads as reads
-use Rattle.paulitext.proofs.byte.at.Lts as lts
-use Rattle.paulis.proofs.PauliString.get.Reads as get-reads
-use Rattle.paulitext.proofs.byte.of_letter.Reads as of-letter-reads
-use Rattle.paulitext.proofs.byte.prefix.Reads as prefix-reads
-use Rattle.paulitext.proofs.byte.prefix_len.Reads as prefix-len-reads
 
 prefix-len-requires : tie.Need-prefix-len-requires
 prefix-len-requires c κs = search needs
 
-prefix-requires : tie.Need-prefix-requires
-prefix-requires c κs = search needs
+prefix-byte-requires : tie.Need-prefix-byte-requires
+prefix-byte-requires c κs = search needs
 
 never : {n : ℕ} {l : Letter} → refused n ≡ accepted l → ⊥
 never e = let z : _≡_ {A = ℕ} 0 1 = cc in omega arith
@@ -33,7 +26,7 @@ returns : tie.Need-returns
 returns c =
     let a = c .before .before .before .args in
     let h : a .i < length (prefix (a .coefficient)) = omega (arith, c .before .before .prefix-len .ensures .0) in
-    c .prefix .ensures ∙ sym (text-prefix (a .coefficient) (a .pauli .nqubits) (a .i) (pauliOf (a .pauli)) h)
+    c .prefix-byte .ensures ∙ sym (text-prefix (a .coefficient) (a .pauli .nqubits) (a .i) (pauliOf (a .pauli)) h)
 
 returns-2 : tie.Need-returns-2
 returns-2 c =
@@ -86,7 +79,7 @@ at-spec =
     tie.close
     (tie.spec
     prefix-len-requires
-    prefix-requires
+    prefix-byte-requires
     returns
     returns-2
     get-requires

@@ -1,12 +1,8 @@
-use mathlib.Core.Path.{_≡_, refl}
-use mathlib.Core.Logic.{⊎-elim, inl, inr}
-use mathlib.Core.Option.{Option}
+use mathlib.Core.Logic.{⊎-elim}
 use Rattle.paulitext.specs.Text.{letterOfByte}
 use Rattle.paulitext.proofs.Bytes.{not-letter}
 use Rattle.paulitext.proofs.byte.letter.Statement.{statement}
 use Rattle.paulitext.proofs.byte.letter.Tie as tie
-use Rattle.paulitext.proofs.byte.letter.Reads as reads
-use Rattle.paulitext.proofs.byte.letter.Lts as lts
 
 returns : tie.Need-returns
 unfolding letterOfByte

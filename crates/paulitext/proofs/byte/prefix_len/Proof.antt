@@ -1,14 +1,10 @@
-use mathlib.Core.Path.{_≡_, refl, sym, ap}
+use mathlib.Core.Path.{sym, ap}
 use native.Mathlib.Omega.{arith}
-use mathlib.Core.List.{List}
-use Prim.Native.Nat.{ℕ}
 use lib.ListN.{length}
 use Rattle.paulitext.specs.Text.{prefix}
 use Rattle.paulitext.proofs.Bytes.{long-prefix}
 use Rattle.paulitext.proofs.byte.prefix_len.Statement.{statement}
 use Rattle.paulitext.proofs.byte.prefix_len.Tie as tie
-use Rattle.paulitext.proofs.byte.prefix_len.Reads as reads
-use Rattle.paulitext.proofs.byte.prefix_len.Lts as lts
 
 returns : tie.Need-returns
 unfolding prefix

@@ -1,18 +1,15 @@
-use mathlib.Core.Path.{_≡_, sym, ap, _∙_, subst}
+use mathlib.Core.Path.{_≡_, sym, ap, _∙_}
 use mathlib.Core.List.{List, _++_}
-use Prim.Native.Nat.{ℕ, _+_, _-_, _≤_, _<_, max}
+use Prim.Native.Nat.{ℕ, _-_, _≤_, _<_}
 use native.Mathlib.Omega.{arith}
 use lib.ListN.{length, drop}
-use lib.Seq.{paste, length-paste}
+use lib.Seq.{length-paste}
 use Rattle.paulis.specs.Strings.{pauliOf}
 use Rattle.paulitext.specs.Text.{prefix, body}
 use Rattle.paulitext.proofs.Bytes.{text-length}
 use Rattle.paulitext.proofs.Walk.{Written, written-none, written-next, written-all}
 use Rattle.paulitext.proofs.byte.write.Statement.{statement}
 use Rattle.paulitext.proofs.byte.write.Tie as tie
-use Rattle.paulitext.proofs.byte.write.Reads as reads
-use Rattle.paulitext.proofs.byte.write.Lts as lts
-use Rattle.paulitext.proofs.byte.at.Reads as at-reads
 
 abbrev Inv-loop : tie.InvT-loop
 Inv-loop pauli coefficient len out₀ i₀ out i = (i ≤ len) × Written (prefix coefficient ++ body (pauli .nqubits) (pauliOf pauli)) out₀ i out

@@ -1,12 +1,10 @@
-use mathlib.Core.Path.{_≡_, refl, subst}
+use mathlib.Core.Path.{subst}
 use Prim.Native.Nat.{ℕ, _<_}
-use lib.ListN.{length, getD}
+use lib.ListN.{length}
 use Rattle.paulitext.specs.Text.{prefix}
 use Rattle.paulitext.proofs.Bytes.{star-of-i, first-minus, second-i, third-star}
-use Rattle.paulitext.proofs.byte.prefix.Statement.{statement}
-use Rattle.paulitext.proofs.byte.prefix.Tie as tie
-use Rattle.paulitext.proofs.byte.prefix.Reads as reads
-use Rattle.paulitext.proofs.byte.prefix.Lts as lts
+use Rattle.paulitext.proofs.byte.prefix_byte.Statement.{statement}
+use Rattle.paulitext.proofs.byte.prefix_byte.Tie as tie
 
 returns : tie.Need-returns
 unfolding prefix
@@ -28,5 +26,5 @@ returns-4 c =
 returns-5 : tie.Need-returns-5
 returns-5 c = third-star (c .before .before .before .args .coefficient) (c .before .before .before .args .i) (c .before .before .if1 .left) (c .before .if3 .left) (c .if4 .left) (c .before .before .before .pre)
 
-pub prefix-spec : {M : Type 1} → statement M
-prefix-spec = tie.close (tie.spec returns returns-2 returns-3 returns-4 returns-5)
+pub prefix-byte-spec : {M : Type 1} → statement M
+prefix-byte-spec = tie.close (tie.spec returns returns-2 returns-3 returns-4 returns-5)

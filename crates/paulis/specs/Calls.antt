@@ -30,13 +30,10 @@ unfoldable pub partsCall : Pauli → Answer Pauli
 unfolding onPauli
 partsCall P = onPauli P (accepted P)
 
-unfoldable pub xBitCall : Pauli → ℕ → Answer Bool
+-- qubit q's bit of m, P's x or z mask
+unfoldable pub bitCall : Pauli → ℕ → ℕ → Answer Bool
 unfolding onQubit
-xBitCall P q = onQubit P q (accepted (eqb (digit q (P .x)) 1))
-
-unfoldable pub zBitCall : Pauli → ℕ → Answer Bool
-unfolding onQubit
-zBitCall P q = onQubit P q (accepted (eqb (digit q (P .z)) 1))
+bitCall P m q = onQubit P q (accepted (eqb (digit q m) 1))
 
 unfoldable pub getCall : Pauli → ℕ → Answer Letter
 unfolding onQubit

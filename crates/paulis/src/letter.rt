@@ -1,11 +1,26 @@
-// One qubit's letter, read and set, of a Pauli whose fields were looked at.
+// One qubit's bits and letter: read, and set.
+use crate::BitAnswer;
 use crate::Pauli;
 use crate::PauliString;
 ghost use mathlib.Core.Path.{_≡_};
 ghost use Prim.Native.Nat.{_<_, _≤_};
 ghost use Rattle.paulilaws.specs.Letter as book;
-ghost use Rattle.bits.specs.Mask.{bitOf};
-ghost use Rattle.paulis.specs.Strings.{pauliOf, letterMeant};
+ghost use Rattle.bits.specs.Mask.{mask, bitOf};
+ghost use Rattle.paulis.specs.Calls.{bitCall};
+ghost use Rattle.paulis.specs.Strings.{pauliOf, bitTold, letterMeant};
+
+// Qubit q's bit of a mask of the Pauli, which is looked at here.
+pub(crate) fn mask_bit(pauli: PauliString, words: [u64; 4], q: usize) -> BitAnswer
+    ensures { λ r. ⌜ bitTold r ≡ bitCall (pauliOf pauli) (mask words) q ⌝ }
+{
+    if !pauli.is_pauli() {
+        return BitAnswer::Refused(3);
+    }
+    if pauli.nqubits <= q {
+        return BitAnswer::Refused(5);
+    }
+    BitAnswer::Bit(bits::mask::packed_bit(words, q))
+}
 
 pub(crate) fn at(pauli: PauliString, q: usize) -> Pauli
     ensures { λ r. ⌜ letterMeant r ≡ book.letterAt q (pauliOf pauli) ⌝ }

@@ -13,7 +13,7 @@ ghost use mathlib.Core.Path.{_≡_};
 ghost use Rattle.paulilaws.specs.Pauli.{fits};
 ghost use Rattle.bits.specs.Mask.{mask};
 ghost use Rattle.paulis.specs.Strings.{pauliOf, bitTold, phaseTold, letterTold, supportTold, letterMeant, Made};
-ghost use Rattle.paulis.specs.Calls.{identityCall, partsCall, xBitCall, zBitCall, getCall, setCall, productCall, anticommutesCall, coefficientCall, squaresCall, signCall, supportCall};
+ghost use Rattle.paulis.specs.Calls.{identityCall, partsCall, bitCall, getCall, setCall, productCall, anticommutesCall, coefficientCall, squaresCall, signCall, supportCall};
 
 // A Pauli operator on `nqubits` qubits, at most 256, with a phase exponent of i in 0..3.
 pub struct PauliString {
@@ -109,30 +109,18 @@ impl PauliString {
 
     // Whether qubit `q` has an X component.
     pub fn x_bit(self, q: usize) -> BitAnswer
-        ensures { λ r. ⌜ bitTold r ≡ xBitCall (pauliOf self) q ⌝ }
+        ensures { λ r. ⌜ bitTold r ≡ bitCall (pauliOf self) (mask (self .x)) q ⌝ }
     {
-        if !self.is_pauli() {
-            return BitAnswer::Refused(3);
-        }
-        if self.nqubits <= q {
-            return BitAnswer::Refused(5);
-        }
         let x = self.x;
-        BitAnswer::Bit(bits::mask::packed_bit(x, q))
+        letter::mask_bit(self, x, q)
     }
 
     // Whether qubit `q` has a Z component.
     pub fn z_bit(self, q: usize) -> BitAnswer
-        ensures { λ r. ⌜ bitTold r ≡ zBitCall (pauliOf self) q ⌝ }
+        ensures { λ r. ⌜ bitTold r ≡ bitCall (pauliOf self) (mask (self .z)) q ⌝ }
     {
-        if !self.is_pauli() {
-            return BitAnswer::Refused(3);
-        }
-        if self.nqubits <= q {
-            return BitAnswer::Refused(5);
-        }
         let z = self.z;
-        BitAnswer::Bit(bits::mask::packed_bit(z, q))
+        letter::mask_bit(self, z, q)
     }
 
     // The single-qubit Pauli acting on `q`.

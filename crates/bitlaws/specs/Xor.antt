@@ -1,9 +1,10 @@
--- xor of masks of any width: with zero, itself, two others. That it commutes and stays below a power of two is lib.Bits' xor-comm and xor-lt. Assumes nothing.
+-- xor of masks of any width: it commutes, associates, is its own inverse, and stays below a power of two. Assumes nothing.
 use mathlib.Core.Path.{_≡_, refl, sym, ap, ap₂, _∙_}
 use Prim.Native.Nat.{ℕ, zero, suc, _+_, _*_, _/_, _%_, _^_, _<_}
 use native.Mathlib.Omega.{arith}
 use lib.Arith.{bin-ind}
-use lib.Bits.{bitXor, differ, xor-step, xor-shr, xor-self, xor-zero-l, xor-zero-r, xor-comm}
+use lib.Bits.{bitXor, differ, xor-step, xor-shr, xor-zero-l, xor-zero-r}
+pub use lib.Bits.{xor-comm, xor-self, xor-lt}
 use Rattle.bitlaws.specs.Digit.{digit, mod-two}
 
 differ-lt : (a b : ℕ) → a < 2 → b < 2 → differ a b < 2

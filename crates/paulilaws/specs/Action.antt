@@ -4,10 +4,10 @@ use mathlib.Core.Logic.{⊎-elim, _↔_}
 use Prim.Native.Nat.{ℕ, _+_, _*_, _%_, _<_}
 use native.Mathlib.Nat.{mod-add-mod, mod-lt, zero-lt-suc}
 use native.Mathlib.Omega.{arith}
-use lib.Bits.{bitXor, xor-comm, xor-zero-r}
+use lib.Bits.{bitXor, xor-zero-r}
 use Rattle.bitlaws.specs.Digit.{mod-two}
 use Rattle.bitlaws.specs.Order.{last-or-before}
-use Rattle.bitlaws.specs.Xor.{xor-assoc, xor-swap}
+use Rattle.bitlaws.specs.Xor.{xor-comm, xor-assoc, xor-swap}
 use Rattle.bitlaws.specs.Parity.{overlap, overlap-comm, overlap-xor-l, overlap-xor-r, overlap-zero-r}
 use Rattle.paulilaws.specs.Pauli.{Pauli, identity, product, anti}
 

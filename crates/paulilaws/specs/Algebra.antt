@@ -6,11 +6,11 @@ use Prim.Native.Nat.{ℕ, zero, suc, _+_, _*_, _/_, _%_, _<_}
 use native.Mathlib.Nat.{zero-lt-suc}
 use native.Mathlib.Omega.{arith}
 use lib.Arith.{mod-mul}
-use lib.Bits.{xor-zero-l, xor-zero-r, xor-self, and-comm}
+use lib.Bits.{xor-zero-l, xor-zero-r, and-comm}
 use lib.Count.{ones}
 use lib.Dec.{eqb}
 use borrow.Author.Tests.{eqb-true, eq-eqb}
-use Rattle.bitlaws.specs.Xor.{xor-assoc}
+use Rattle.bitlaws.specs.Xor.{xor-assoc, xor-self}
 use Rattle.bitlaws.specs.Parity.{parity, overlap, overlap-xor-l, overlap-xor-r, overlap-zero-l, overlap-zero-r}
 use Rattle.paulilaws.specs.Pauli.{Pauli, identity, product, ys, coefficient, hermitian, sign, same}
 use Rattle.paulilaws.specs.Action.{half-turns-within}

@@ -1,7 +1,7 @@
 -- The binary digits of a number, or of a mask: reading one, and writing one. Assumes nothing.
-use mathlib.Core.Path.{_≡_, sym, ap, _∙_}
-use Prim.Native.Nat.{ℕ, suc, _+_, _-_, _*_, _/_, _%_, _^_, _≤_, _<_}
-use native.Mathlib.Nat.{mod-lt, zero-lt-suc, div-eq-of-lt, pow-suc, one-mul}
+use mathlib.Core.Path.{_≡_, sym, ap, ap₂, _∙_}
+use Prim.Native.Nat.{ℕ, zero, suc, _+_, _-_, _*_, _/_, _%_, _^_, _≤_, _<_}
+use native.Mathlib.Nat.{mod-lt, zero-lt-suc, div-eq-of-lt, div-one, div-add-mod', pow-suc, one-mul}
 use native.Mathlib.Omega.{arith}
 use lib.Arith.{digits-mod, mod-mul}
 use lib.Dec.{lit<}
@@ -51,3 +51,18 @@ digit-low s q a h =
 -- a one shifted up within a word of `size` bits
 pub one-shifted : (size q : ℕ) → q < size → (1 * 2 ^ q) % 2 ^ size ≡ 2 ^ q
 one-shifted size q h = shl-exact 1 q size (lit< tt) (omega arith) ∙ one-mul (2 ^ q)
+
+lowest-digit : (a : ℕ) → digit 0 a ≡ a % 2
+unfolding digit
+lowest-digit a = ap (λ (m : ℕ). m % 2) (div-one a)
+
+-- two numbers below 2 ^ n with the same n digits are one
+pub digits-same : (n a b : ℕ) → a < 2 ^ n → b < 2 ^ n → ((i : ℕ) → i < n → digit i a ≡ digit i b) → a ≡ b
+digits-same zero a b ha hb e = omega arith
+digits-same (suc n) a b ha hb e =
+    let double : 2 ^ suc n ≡ 2 ^ n * 2 = pow-suc 2 n in
+    let low : a % 2 ≡ b % 2 = sym (lowest-digit a) ∙ e 0 (zero-lt-suc n) ∙ lowest-digit b in
+    let high : a / 2 ≡ b / 2
+    = digits-same n (a / 2) (b / 2) (omega arith) (omega arith)
+    (λ i h. sym (digit-high 1 i a) ∙ e (1 + i) (omega arith) ∙ digit-high 1 i b) in
+    sym (div-add-mod' a 2) ∙ ap₂ (λ (q r : ℕ). q * 2 + r) high low ∙ div-add-mod' b 2

@@ -22,6 +22,7 @@ pub(crate) fn mask_bit(pauli: PauliString, words: [u64; 4], q: usize) -> BitAnsw
     BitAnswer::Bit(bits::mask::packed_bit(words, q))
 }
 
+// Qubit q's letter.
 pub(crate) fn at(pauli: PauliString, q: usize) -> Pauli
     ensures { λ r. ⌜ letterMeant r ≡ book.letterAt q (pauliOf pauli) ⌝ }
 {
@@ -30,6 +31,8 @@ pub(crate) fn at(pauli: PauliString, q: usize) -> Pauli
     from_bits(bits::mask::packed_bit(x, q), bits::mask::packed_bit(z, q))
 }
 
+// The Pauli with qubit q's letter set. k gains 1 for a new Y and loses 1, which is 3 modulo 4, for
+// an old one.
 pub(crate) fn with(pauli: PauliString, q: usize, letter: Pauli) -> PauliString
     requires { ⌜ (q < 256) × (pauli .phase ≤ 3) ⌝ }
     ensures { λ r. ⌜ pauliOf r ≡ book.withLetter q (letterMeant letter) (pauliOf pauli) ⌝ }

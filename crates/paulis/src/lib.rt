@@ -111,16 +111,16 @@ impl PauliString {
     pub fn x_bit(self, q: usize) -> BitAnswer
         ensures { λ r. ⌜ bitTold r ≡ bitCall (pauliOf self) (mask (self .x)) q ⌝ }
     {
-        let x = self.x;
-        letter::mask_bit(self, x, q)
+        let words = self.x;
+        letter::mask_bit(self, words, q)
     }
 
     // Whether qubit `q` has a Z component.
     pub fn z_bit(self, q: usize) -> BitAnswer
         ensures { λ r. ⌜ bitTold r ≡ bitCall (pauliOf self) (mask (self .z)) q ⌝ }
     {
-        let z = self.z;
-        letter::mask_bit(self, z, q)
+        let words = self.z;
+        letter::mask_bit(self, words, q)
     }
 
     // The single-qubit Pauli acting on `q`.

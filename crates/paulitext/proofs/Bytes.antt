@@ -1,17 +1,17 @@
 -- The bytes of a text, one by one. Assumes nothing.
-use mathlib.Core.Path.{_≡_, refl, sym, ap, _∙_}
+use mathlib.Core.Path.{_≡_, refl, ap, _∙_}
 use mathlib.Core.Logic.{_⊎_, inl, inr}
 use mathlib.Core.List.{[], _∷_, _++_}
 use mathlib.Core.Option.{none}
 use Prim.Native.Nat.{ℕ, zero, suc, _+_, _-_, _≤_, _<_, max}
-use native.Mathlib.Nat.{add-zero}
 use native.Mathlib.Omega.{arith}
 use borrow.Author.Tests.{ne-eqb}
 use lib.ListN.{length, getD, length-append, List·getD-append}
 use lib.Seq.{getD-append-add}
 use Rattle.paulilaws.specs.Pauli.{Pauli}
 use Rattle.paulilaws.specs.Letter.{letterAt}
-use Rattle.paulitext.specs.Text.{letterOfByte, prefix, byteOf, lettersFrom, body}
+use Rattle.paulitext.specs.Laws.{letters-length, letters-at}
+use Rattle.paulitext.specs.Text.{letterOfByte, prefix, byteOf, body}
 
 -- ---- reading: a byte that is none of the eleven
 
@@ -79,19 +79,6 @@ third-star (suc (suc zero)) i n p q h = absurd (p (omega arith))
 third-star (suc (suc (suc c))) i n p q h = last-star i p q h
 
 -- ---- the letters
-
-letters-length : (q count : ℕ) (P : Pauli) → length (lettersFrom q count P) ≡ count
-unfolding lettersFrom
-letters-length q zero P = refl
-letters-length q (suc count) P = ap suc (letters-length (suc q) count P)
-
-letters-at : (q count j : ℕ) (P : Pauli) → j < count → getD (lettersFrom q count P) j 0 ≡ byteOf (letterAt (q + j) P)
-unfolding lettersFrom
-letters-at q zero j P h = absurd (omega arith)
-letters-at q (suc count) zero P h = ap (λ (n : ℕ). byteOf (letterAt n P)) (sym (add-zero q))
-letters-at q (suc count) (suc j) P h =
-    let place : suc q + j ≡ q + suc j = omega arith in
-    letters-at (suc q) count j P (omega arith) ∙ ap (λ (n : ℕ). byteOf (letterAt n P)) place
 
 body-length : (n : ℕ) (P : Pauli) → length (body n P) ≡ max n 1
 unfolding body

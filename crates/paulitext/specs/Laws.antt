@@ -1,4 +1,4 @@
--- What a text that is read means: one qubit to a byte, that byte's letter on it, and the coefficient 1. Assumes nothing.
+-- What a text that is shown and one that is read mean: one qubit to a byte, that byte's letter on it, and the coefficient 1. Assumes nothing.
 use mathlib.Core.Path.{_≡_, refl, sym, ap, _∙_, subst}
 use mathlib.Core.Bool.{Bool, true, false}
 use mathlib.Core.List.{List, [], _∷_}
@@ -16,8 +16,25 @@ use Rattle.answers.specs.Answer.Answer.{accepted, refused, refusedAt}
 use Rattle.bitlaws.specs.Parity.{ones-zero}
 use Rattle.paulilaws.specs.Pauli.{Pauli, identity, coefficient, ys}
 use Rattle.paulilaws.specs.Letter.{Letter, letterAt, withLetter, letter-set, letter-kept, coefficient-kept}
-use Rattle.paulitext.specs.Text.{letterOfByte, onLetter, reading}
+use Rattle.paulitext.specs.Text.{letterOfByte, onLetter, reading, byteOf, lettersFrom}
 use Rattle.paulitext.specs.Calls.{readCall}
+
+-- ---- the letters that are shown
+
+pub letters-length : (q count : ℕ) (P : Pauli) → length (lettersFrom q count P) ≡ count
+unfolding lettersFrom
+letters-length q zero P = refl
+letters-length q (suc count) P = ap suc (letters-length (suc q) count P)
+
+pub letters-at : (q count j : ℕ) (P : Pauli) → j < count → getD (lettersFrom q count P) j 0 ≡ byteOf (letterAt (q + j) P)
+unfolding lettersFrom
+letters-at q zero j P h = absurd (omega arith)
+letters-at q (suc count) zero P h = ap (λ (n : ℕ). byteOf (letterAt n P)) (sym (add-zero q))
+letters-at q (suc count) (suc j) P h =
+    let place : suc q + j ≡ q + suc j = omega arith in
+    letters-at (suc q) count j P (omega arith) ∙ ap (λ (n : ℕ). byteOf (letterAt n P)) place
+
+-- ---- what is read
 
 -- R is P with the letters of bs set from qubit q on
 record Spelled (q : ℕ) (bs : List ℕ) (P R : Pauli) : Type 0 where

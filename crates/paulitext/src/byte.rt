@@ -25,6 +25,7 @@ pub(crate) fn letter(byte: u8) -> LetterAnswer
     }
 }
 
+// The letter's byte, upper case.
 fn of_letter(letter: Pauli) -> u8
     ensures { λ r. ⌜ r ≡ byteOf (letterMeant letter) ⌝ }
 {
@@ -86,6 +87,7 @@ fn at(pauli: PauliString, coefficient: u8, i: usize) -> u8
     if pauli.nqubits == 0 {
         return b'I';
     }
+    // The qubit is below the width, so `get` never refuses.
     match pauli.get(i - before) {
         LetterAnswer::Letter(letter) => of_letter(letter),
         LetterAnswer::Refused(_) => b'I',

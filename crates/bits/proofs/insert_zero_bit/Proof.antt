@@ -1,3 +1,4 @@
+-- The masks and shifts open the bit, by the law in Index.
 use mathlib.Core.Path.{_≡_, ap}
 use Prim.Native.Nat.{_*_, _%_, _^_}
 use native.Mathlib.Omega.{arith}

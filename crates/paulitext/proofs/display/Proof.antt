@@ -1,3 +1,4 @@
+-- Each return is a case of Showing; what coefficient_phase tells decides row 3.
 use mathlib.Core.Path.{sym, ap, _∙_}
 use Rattle.paulilaws.specs.Pauli.{coefficient}
 use Rattle.paulilaws.specs.Fitting.{fits-fitting}

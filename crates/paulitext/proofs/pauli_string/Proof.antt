@@ -1,3 +1,4 @@
+-- The loop's invariant: reading the rest into the Pauli so far is reading the whole text (Walk.Reached). The measure is what is left.
 use mathlib.Core.Path.{_≡_, sym, ap, _∙_, subst}
 use Prim.Native.Nat.{_+_, _-_, _<_}
 use native.Mathlib.Omega.{arith}

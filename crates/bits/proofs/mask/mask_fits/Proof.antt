@@ -1,3 +1,4 @@
+-- Word by word: each is held against what the width leaves to it.
 use Prim.Native.Nat.{ℕ, _^_}
 use lib.Dec.{ltb}
 use mathlib.Core.Path.{ap, _∙_}

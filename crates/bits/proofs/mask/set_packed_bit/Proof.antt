@@ -1,3 +1,4 @@
+-- The word that holds the bit is written, by mask-put; past bit 255 the mask is returned.
 use mathlib.Core.Path.{_≡_, sym, _∙_}
 use lib.ListN.{length, getD}
 use mir.Val.{Fits}

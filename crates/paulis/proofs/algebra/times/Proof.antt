@@ -1,3 +1,4 @@
+-- The four fields one by one: width, phase, x, z.
 use mathlib.Core.Path.{refl}
 use Rattle.bitlaws.specs.Parity.{overlap, parity}
 use Rattle.paulilaws.specs.Pauli.{same, product}

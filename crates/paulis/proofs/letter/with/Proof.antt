@@ -1,3 +1,4 @@
+-- The four fields one by one: width, phase, x, z.
 use mathlib.Core.Path.{refl, ap, ap₂, _∙_}
 use Prim.Native.Nat.{ℕ, _+_, _*_, _%_}
 use Rattle.bitlaws.specs.Digit.{put}

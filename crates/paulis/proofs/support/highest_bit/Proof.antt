@@ -1,3 +1,5 @@
+-- The loop's invariant: no bit of either mask stands from word `word` on. The measure is `word`.
+-- The loop is left by the first break with nothing below either, and by the second with the top bit of a word that has one.
 use mathlib.Core.Path.{_≡_, sym, ap, _∙_, subst}
 use mathlib.Core.Logic.{⊎-elim}
 use mathlib.Core.Option.{some}

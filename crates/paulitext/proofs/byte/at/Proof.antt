@@ -1,3 +1,4 @@
+-- The byte lies in the prefix, is the `I` of no qubits, or is a qubit's letter.
 use mathlib.Core.Path.{_≡_, sym, ap, _∙_}
 use Prim.Native.Nat.{ℕ, _-_, _≤_, _<_}
 use native.Mathlib.Omega.{arith}

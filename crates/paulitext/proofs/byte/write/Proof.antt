@@ -1,3 +1,4 @@
+-- The loop's invariant: the first i bytes of the text stand in the buffer, and past them what stood there. The measure is what is left.
 use mathlib.Core.Path.{_≡_, sym, ap, _∙_}
 use mathlib.Core.List.{List, _++_}
 use Prim.Native.Nat.{ℕ, _-_, _≤_, _<_}

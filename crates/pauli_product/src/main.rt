@@ -23,7 +23,7 @@ fn product(left: &[u8], right: &[u8]) -> ReadAnswer {
     };
     let a = l.pauli;
     let b = r.pauli;
-    let made = a.mul(b);
+    let made = pauligroup::mul(a, b);
     let outcome = made.outcome;
     let pauli = made.pauli;
     match outcome {

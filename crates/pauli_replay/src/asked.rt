@@ -27,7 +27,7 @@ pub(crate) fn product(line: &[u8]) -> Verdict {
     }
     let a = form::pauli(line, 0);
     let b = form::pauli(line, 10);
-    judged(answer::is_made(a.mul(b), line, 20))
+    judged(answer::is_made(pauligroup::mul(a, b), line, 20))
 }
 
 // a a b bit
@@ -37,7 +37,7 @@ pub(crate) fn anticommutes(line: &[u8]) -> Verdict {
     }
     let a = form::pauli(line, 0);
     let b = form::pauli(line, 10);
-    judged(answer::is_bit(paulis::pauli_anticommutes(a, b), form::word(line, 20)))
+    judged(answer::is_bit(pauligroup::pauli_anticommutes(a, b), form::word(line, 20)))
 }
 
 // h a bit
@@ -46,7 +46,10 @@ pub(crate) fn hermitian(line: &[u8]) -> Verdict {
         return Verdict::Unread;
     }
     let a = form::pauli(line, 0);
-    judged(answer::is_bit(paulis::pauli_squares_to_identity(a), form::word(line, 10)))
+    judged(answer::is_bit(
+        pauligroup::pauli_squares_to_identity(a),
+        form::word(line, 10),
+    ))
 }
 
 // s a sign
@@ -55,7 +58,7 @@ pub(crate) fn sign(line: &[u8]) -> Verdict {
         return Verdict::Unread;
     }
     let a = form::pauli(line, 0);
-    judged(answer::is_sign(paulis::measurement_phase_sign(a), form::word(line, 10)))
+    judged(answer::is_sign(pauligroup::measurement_phase_sign(a), form::word(line, 10)))
 }
 
 // g a q letter

@@ -10,7 +10,7 @@ fn display(subject: &[u8], pauli: PauliString) {
 }
 
 fn product(subject: &[u8], a: PauliString, b: PauliString) {
-    let answer = a.mul(b);
+    let answer = pauligroup::mul(a, b);
     let pauli = answer.pauli;
     show::made(subject, b"mul", answer);
     display(subject, pauli);

@@ -4,26 +4,26 @@ use crate::show;
 use paulis::PauliString;
 
 fn pair(subject: &[u8], a: PauliString, b: PauliString) {
-    show::made(subject, b"mul", a.mul(b));
+    show::made(subject, b"mul", pauligroup::mul(a, b));
     show::bit(
         subject,
         b"pauli_anticommutes",
-        paulis::pauli_anticommutes(a, b),
+        pauligroup::pauli_anticommutes(a, b),
     );
 }
 
 pub(crate) fn left_and_right(subject: &[u8], pauli: PauliString, other: PauliString) {
-    show::made(subject, b"mul on the left", pauli.mul(other));
-    show::made(subject, b"mul on the right", other.mul(pauli));
+    show::made(subject, b"mul on the left", pauligroup::mul(pauli, other));
+    show::made(subject, b"mul on the right", pauligroup::mul(other, pauli));
     show::bit(
         subject,
         b"pauli_anticommutes on the left",
-        paulis::pauli_anticommutes(pauli, other),
+        pauligroup::pauli_anticommutes(pauli, other),
     );
     show::bit(
         subject,
         b"pauli_anticommutes on the right",
-        paulis::pauli_anticommutes(other, pauli),
+        pauligroup::pauli_anticommutes(other, pauli),
     );
 }
 

@@ -18,16 +18,16 @@ fn parts(subject: &[u8], pauli: PauliString) {
 
 fn alone(subject: &[u8], pauli: PauliString) {
     show::support(subject, pauli.max_support());
-    show::phase(subject, paulis::coefficient_phase(pauli));
+    show::phase(subject, pauligroup::coefficient_phase(pauli));
     show::bit(
         subject,
         b"pauli_squares_to_identity",
-        paulis::pauli_squares_to_identity(pauli),
+        pauligroup::pauli_squares_to_identity(pauli),
     );
     show::bit(
         subject,
         b"measurement_phase_sign",
-        paulis::measurement_phase_sign(pauli),
+        pauligroup::measurement_phase_sign(pauli),
     );
     let mut out = [b'.'; 8];
     let answer = paulitext::display(pauli, &mut out);

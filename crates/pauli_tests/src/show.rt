@@ -1,13 +1,13 @@
 // Writing a case: `subject, call: answer`. A mask's words are hexadecimal, lowest first.
 use bits::Opened;
 use libc::STDOUT_FILENO;
+use pauligroup::PhaseAnswer;
 use paulis::BitAnswer;
 use paulis::LetterAnswer;
 use paulis::Outcome;
 use paulis::Pauli;
 use paulis::PauliAnswer;
 use paulis::PauliString;
-use paulis::PhaseAnswer;
 use paulis::SupportAnswer;
 use paulitext::ReadAnswer;
 use paulitext::Reading;

@@ -7,7 +7,7 @@ fn sign(subject: &[u8], pauli: PauliString) {
     show::bit(
         subject,
         b"measurement_phase_sign",
-        paulis::measurement_phase_sign(pauli),
+        pauligroup::measurement_phase_sign(pauli),
     );
 }
 
@@ -24,9 +24,9 @@ fn phases() {
     show::bit(
         b"X, phase 1",
         b"pauli_squares_to_identity",
-        paulis::pauli_squares_to_identity(ix),
+        pauligroup::pauli_squares_to_identity(ix),
     );
-    show::phase(b"XZ", paulis::coefficient_phase(make::low(1, 1, 1, 0)));
+    show::phase(b"XZ", pauligroup::coefficient_phase(make::low(1, 1, 1, 0)));
 }
 
 fn parts() {

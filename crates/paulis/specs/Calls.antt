@@ -1,22 +1,18 @@
 -- What each call of the crate answers: the rows of the table that refuse it, lowest number first, then its value. Assumes nothing.
-use mathlib.Core.Bool.{Bool, not, _&&_}
+use mathlib.Core.Bool.{Bool, not}
 use mathlib.Core.Option.{Option}
 use Prim.Native.Nat.{ℕ}
 use lib.Dec.{leb, ltb, eqb}
 use Rattle.answers.specs.Answer.{Answer, refuse}
 use Rattle.answers.specs.Answer.Answer.{accepted}
 use Rattle.bitlaws.specs.Digit.{digit}
-use Rattle.paulilaws.specs.Pauli.{Pauli, fits, identity, product, anti, coefficient, hermitian, sign, mostQubits}
+use Rattle.paulilaws.specs.Pauli.{Pauli, fits, identity, mostQubits}
 use Rattle.paulilaws.specs.Letter.{Letter, letterAt, withLetter}
 use Rattle.paulilaws.specs.Support.{maxSupport}
 
 -- row 3: no Pauli
 unfoldable pub onPauli : {A : Type 0} → Pauli → Answer A → Answer A
 onPauli P rest = refuse (not (fits P)) 3 rest
-
--- rows 3 and 4: no Paulis, or of different widths
-unfoldable pub onPair : {A : Type 0} → Pauli → Pauli → Answer A → Answer A
-onPair P Q rest = refuse (not (fits P && fits Q)) 3 (refuse (not (eqb (P .n) (Q .n))) 4 rest)
 
 -- rows 3 and 5: no Pauli, or no qubit of it
 unfoldable pub onQubit : {A : Type 0} → Pauli → ℕ → Answer A → Answer A
@@ -42,27 +38,6 @@ getCall P q = onQubit P q (accepted (letterAt q P))
 unfoldable pub setCall : Pauli → ℕ → Letter → Answer Pauli
 unfolding onQubit
 setCall P q l = onQubit P q (accepted (withLetter q l P))
-
-unfoldable pub productCall : Pauli → Pauli → Answer Pauli
-unfolding onPair
-productCall A B = onPair A B (accepted (product A B))
-
-unfoldable pub anticommutesCall : Pauli → Pauli → Answer Bool
-unfolding onPair
-anticommutesCall A B = onPair A B (accepted (eqb (anti A B) 1))
-
-unfoldable pub coefficientCall : Pauli → Answer ℕ
-unfolding onPauli
-coefficientCall P = onPauli P (accepted (coefficient P))
-
-unfoldable pub squaresCall : Pauli → Answer Bool
-unfolding onPauli
-squaresCall P = onPauli P (accepted (hermitian P))
-
--- row 7: not Hermitian
-unfoldable pub signCall : Pauli → Answer Bool
-unfolding onPauli
-signCall P = onPauli P (refuse (not (hermitian P)) 7 (accepted (eqb (sign P) 1)))
 
 unfoldable pub supportCall : Pauli → Answer (Option ℕ)
 unfolding onPauli

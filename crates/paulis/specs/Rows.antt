@@ -1,14 +1,14 @@
 -- Which row of the table answers a call, from the tests that the code makes. Assumes nothing.
 use mathlib.Core.Path.{_≡_, sym, _∙_}
-use mathlib.Core.Bool.{Bool, true, false, not, _&&_}
+use mathlib.Core.Bool.{Bool, true, false, not}
 use Prim.Native.Nat.{ℕ, _≤_, _<_}
 use lib.Dec.{leb}
-use borrow.Author.Tests.{le-leb, lt-leb, eq-eqb, ne-eqb, not-false}
+use borrow.Author.Tests.{le-leb, lt-leb, not-false}
 use Rattle.answers.specs.Answer.{Answer, refuse}
 use Rattle.answers.specs.Answer.Answer.{refused}
 use Rattle.paulilaws.specs.Pauli.{Pauli, fits}
 use Rattle.paulilaws.specs.Fitting.{Fitting, fits-fitting}
-use Rattle.paulis.specs.Calls.{onPauli, onPair, onQubit}
+use Rattle.paulis.specs.Calls.{onPauli, onQubit}
 
 module _ {A : Type 0} (P : Pauli) (rest : Answer A) {t : Bool} (is : t ≡ fits P) where
   pub no-pauli : not t ≡ true → onPauli P rest ≡ refused 3
@@ -36,16 +36,3 @@ module _ {A : Type 0} (P : Pauli) (q : ℕ) (rest : Answer A) {t : Bool} (is : t
   pub a-qubit : not t ≡ false → q < P .n → onQubit P q rest ≡ rest
   unfolding onQubit refuse
   a-qubit h l = a-pauli P (refuse (leb (P .n) q) 5 rest) is h ∙ rw (lt-leb (P .n) q l)
-
-module _ {A : Type 0} (P Q : Pauli) (rest : Answer A) {t u : Bool} (is : t ≡ fits P) (iu : u ≡ fits Q) where
-  pub no-paulis : not (t && u) ≡ true → onPair P Q rest ≡ refused 3
-  unfolding onPair refuse
-  no-paulis h = rw (← is, ← iu, h)
-
-  pub unequal : not (t && u) ≡ false → (P .n ≡ Q .n → ⊥) → onPair P Q rest ≡ refused 4
-  unfolding onPair refuse
-  unequal h ne = rw (← is, ← iu, h, ne-eqb (P .n) (Q .n) ne)
-
-  pub equal : not (t && u) ≡ false → P .n ≡ Q .n → onPair P Q rest ≡ rest
-  unfolding onPair refuse
-  equal h e = rw (← is, ← iu, h, eq-eqb (P .n) (Q .n) e)

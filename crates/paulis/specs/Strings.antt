@@ -16,8 +16,6 @@ use Rattle.paulis.specs.declared.Pauli as one
 use Rattle.paulis.specs.declared.Pauli.the-variants as single
 use Rattle.paulis.specs.declared.BitAnswer.{BitAnswer}
 use Rattle.paulis.specs.declared.BitAnswer.the-variants as bit
-use Rattle.paulis.specs.declared.PhaseAnswer.{PhaseAnswer}
-use Rattle.paulis.specs.declared.PhaseAnswer.the-variants as phase
 use Rattle.paulis.specs.declared.LetterAnswer.{LetterAnswer}
 use Rattle.paulis.specs.declared.LetterAnswer.the-variants as read
 use Rattle.paulis.specs.declared.SupportAnswer.{SupportAnswer}
@@ -35,10 +33,6 @@ letterMeant single.Y = Letter.Y
 abbrev pub bitTold : BitAnswer → Answer Bool
 bitTold (bit.Bit b) = accepted b
 bitTold (bit.Refused n) = refused n
-
-abbrev pub phaseTold : PhaseAnswer → Answer ℕ
-phaseTold (phase.Exponent k) = accepted k
-phaseTold (phase.Refused n) = refused n
 
 abbrev pub letterTold : LetterAnswer → Answer Letter
 letterTold (read.Letter l) = accepted (letterMeant l)

@@ -1,19 +1,18 @@
-// Packed Pauli strings (pauli.rs).
+// Packed Pauli strings and their letters (pauli.rs); products and signs are the crate pauligroup's.
 //
 // The operator is i^phase times X^x Z^z: qubit q lives at bit q % 64 of word q / 64 of `x` and `z`,
 // and a Y is stored as x = 1, z = 1 with one more in the phase. The fields are public, so each call
-// looks at its Paulis first and refuses by 3 what is none; then by 4, 5, 7 of the scope's table,
-// the lowest number first.
-mod algebra;
-mod answer;
+// looks at its Pauli first and refuses by 3 what is none; then by 5 of the scope's table.
 mod letter;
 mod support;
 
 ghost use mathlib.Core.Path.{_≡_};
+ghost use Rattle.answers.specs.Answer.{Answer};
+ghost use Rattle.paulilaws.specs.Pauli as book;
 ghost use Rattle.paulilaws.specs.Pauli.{fits};
 ghost use Rattle.bits.specs.Mask.{mask};
-ghost use Rattle.paulis.specs.Strings.{pauliOf, bitTold, phaseTold, letterTold, supportTold, letterMeant, Made};
-ghost use Rattle.paulis.specs.Calls.{identityCall, partsCall, bitCall, getCall, setCall, productCall, anticommutesCall, coefficientCall, squaresCall, signCall, supportCall};
+ghost use Rattle.paulis.specs.Strings.{pauliOf, bitTold, letterTold, supportTold, letterMeant, Made};
+ghost use Rattle.paulis.specs.Calls.{identityCall, partsCall, bitCall, getCall, setCall, supportCall};
 
 // A Pauli operator on `nqubits` qubits, at most 256, with a phase exponent of i in 0..3.
 pub struct PauliString {
@@ -48,11 +47,6 @@ pub enum BitAnswer {
     Refused(u8),
 }
 
-pub enum PhaseAnswer {
-    Exponent(u8),
-    Refused(u8),
-}
-
 pub enum LetterAnswer {
     Letter(Pauli),
     Refused(u8),
@@ -64,15 +58,46 @@ pub enum SupportAnswer {
     Refused(u8),
 }
 
+impl PauliAnswer {
+    pub fn done(pauli: PauliString) -> PauliAnswer
+        ensures { λ r. ⌜ Made r (Answer.accepted (pauliOf pauli)) ⌝ }
+    {
+        PauliAnswer {
+            outcome: Outcome::Done,
+            pauli,
+        }
+    }
+
+    pub fn refused(number: u8) -> PauliAnswer
+        ensures { λ r. ⌜ Made r (Answer.refused number) ⌝ }
+    {
+        PauliAnswer {
+            outcome: Outcome::Refused(number),
+            pauli: identity(0),
+        }
+    }
+}
+
+fn identity(nqubits: usize) -> PauliString
+    ensures { λ r. ⌜ pauliOf r ≡ book.identity nqubits ⌝ }
+{
+    PauliString {
+        nqubits,
+        x: [0; 4],
+        z: [0; 4],
+        phase: 0,
+    }
+}
+
 impl PauliString {
     // Identity on `nqubits` qubits.
     pub fn new(nqubits: usize) -> PauliAnswer
         ensures { λ r. ⌜ Made r (identityCall nqubits) ⌝ }
     {
         if 256 < nqubits {
-            return answer::refused(3);
+            return PauliAnswer::refused(3);
         }
-        answer::done(answer::identity(nqubits))
+        PauliAnswer::done(identity(nqubits))
     }
 
     // The Pauli with these fields.
@@ -86,9 +111,9 @@ impl PauliString {
             phase,
         };
         if !parts.is_pauli() {
-            return answer::refused(3);
+            return PauliAnswer::refused(3);
         }
-        answer::done(parts)
+        PauliAnswer::done(parts)
     }
 
     // Whether the fields are a Pauli: phase at most 3, width at most 256, no mask bit at or above
@@ -142,25 +167,12 @@ impl PauliString {
         ensures { λ r. ⌜ Made r (setCall (pauliOf self) q (letterMeant pauli)) ⌝ }
     {
         if !self.is_pauli() {
-            return answer::refused(3);
+            return PauliAnswer::refused(3);
         }
         if self.nqubits <= q {
-            return answer::refused(5);
+            return PauliAnswer::refused(5);
         }
-        answer::done(letter::with(self, q, pauli))
-    }
-
-    // The product, in which `rhs` acts first.
-    pub fn mul(self, rhs: PauliString) -> PauliAnswer
-        ensures { λ r. ⌜ Made r (productCall (pauliOf self) (pauliOf rhs)) ⌝ }
-    {
-        if !(self.is_pauli() & rhs.is_pauli()) {
-            return answer::refused(3);
-        }
-        if self.nqubits != rhs.nqubits {
-            return answer::refused(4);
-        }
-        answer::done(algebra::times(self, rhs))
+        PauliAnswer::done(letter::with(self, q, pauli))
     }
 
     // The largest qubit that carries a non-identity Pauli.
@@ -181,51 +193,4 @@ pub fn pauli_identity(nqubits: usize) -> PauliAnswer
     ensures { λ r. ⌜ Made r (identityCall nqubits) ⌝ }
 {
     PauliString::new(nqubits)
-}
-
-// Symplectic inner product: true when `a` and `b` anticommute.
-pub fn pauli_anticommutes(a: PauliString, b: PauliString) -> BitAnswer
-    ensures { λ r. ⌜ bitTold r ≡ anticommutesCall (pauliOf a) (pauliOf b) ⌝ }
-{
-    if !(a.is_pauli() & b.is_pauli()) {
-        return BitAnswer::Refused(3);
-    }
-    if a.nqubits != b.nqubits {
-        return BitAnswer::Refused(4);
-    }
-    BitAnswer::Bit(algebra::anticommute(a, b))
-}
-
-// The exponent of i in front of the letters: the phase minus the number of Ys, modulo 4.
-pub fn coefficient_phase(pauli: PauliString) -> PhaseAnswer
-    ensures { λ r. ⌜ phaseTold r ≡ coefficientCall (pauliOf pauli) ⌝ }
-{
-    if !pauli.is_pauli() {
-        return PhaseAnswer::Refused(3);
-    }
-    PhaseAnswer::Exponent(algebra::coefficient(pauli))
-}
-
-// True when the operator is Hermitian, that is its coefficient is real.
-pub fn pauli_squares_to_identity(pauli: PauliString) -> BitAnswer
-    ensures { λ r. ⌜ bitTold r ≡ squaresCall (pauliOf pauli) ⌝ }
-{
-    if !pauli.is_pauli() {
-        return BitAnswer::Refused(3);
-    }
-    BitAnswer::Bit(algebra::coefficient(pauli) % 2 == 0)
-}
-
-// The sign of a Hermitian Pauli: false for +P, true for -P.
-pub fn measurement_phase_sign(pauli: PauliString) -> BitAnswer
-    ensures { λ r. ⌜ bitTold r ≡ signCall (pauliOf pauli) ⌝ }
-{
-    if !pauli.is_pauli() {
-        return BitAnswer::Refused(3);
-    }
-    let coefficient = algebra::coefficient(pauli);
-    if coefficient % 2 != 0 {
-        return BitAnswer::Refused(7);
-    }
-    BitAnswer::Bit(coefficient == 2)
 }

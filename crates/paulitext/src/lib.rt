@@ -2,9 +2,9 @@
 mod answer;
 mod byte;
 
+use pauligroup::PhaseAnswer;
 use paulis::LetterAnswer;
 use paulis::PauliString;
-use paulis::PhaseAnswer;
 ghost use Rattle.paulis.specs.Strings.{pauliOf};
 ghost use Rattle.paulitext.specs.Calls.{Read, Shown, readCall};
 
@@ -54,7 +54,7 @@ pub fn pauli_string(ops: &[u8]) -> ReadAnswer
 pub fn display(pauli: PauliString, out: &mut [u8]) -> TextAnswer
     ensures { λ r. ⌜ Shown (pauliOf pauli) (now (out .entry)) r (now (out .exit)) ⌝ }
 {
-    let PhaseAnswer::Exponent(coefficient) = paulis::coefficient_phase(pauli) else {
+    let PhaseAnswer::Exponent(coefficient) = pauligroup::coefficient_phase(pauli) else {
         return TextAnswer::Refused(3);
     };
     let len = byte::text_len(coefficient, pauli.nqubits);

@@ -2,8 +2,8 @@
 use mathlib.Core.Path.{sym, ap, _∙_}
 use Rattle.paulilaws.specs.Pauli.{coefficient}
 use Rattle.paulilaws.specs.Fitting.{fits-fitting}
-use Rattle.paulis.specs.Calls.{coefficientCall}
-use Rattle.paulis.specs.Strings.{pauliOf, phaseTold}
+use Rattle.pauligroup.specs.Calls.{coefficientCall, phaseTold}
+use Rattle.paulis.specs.Strings.{pauliOf}
 use Rattle.paulitext.proofs.Walk.{told-value, told-refused}
 use Rattle.paulitext.proofs.Showing.{shown-no-pauli, shown-short, shown-all}
 use borrow.Author.Needs.{needs}

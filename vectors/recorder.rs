@@ -1,25 +1,32 @@
-//! Records answers of the published Pauli layer, one case a line.
+//! Records answers of the published Pauli layer: a question a line to `stdin`,
+//! the answer at the same line of `stdout`, both in the folder that is named.
 //!
 //! The modules are the files of inmzhang/ticit ea5d480457 (Apache-2.0) as
 //! published; record.sh puts them beside this file. The output is the same
 //! each time.
 //!
 //! A word is a space and 16 hex digits. A Pauli is ten words: the width, four
-//! words of x, four of z, the phase. The first byte of a line says what was
+//! words of x, four of z, the phase. The first byte of a question says what is
 //! asked:
 //!
-//!   m a b a*b         product
-//!   a a b bit         pauli_anticommutes
-//!   h a bit           pauli_squares_to_identity
-//!   s a sign          measurement_phase_sign, 7 for an error
-//!   g a q letter      get, a letter is 0 I, 1 X, 2 Z, 3 Y
-//!   S a q letter a'   set
-//!   t a q             max_support, all ones for none
-//!   i packed bit out  insert_zero_bit
-//!   n n a             pauli_identity
-//!   b a q x z         xbit and zbit
-//!   d a text          Display
-//!   p ok a text       pauli_string: ok is 0, or 2 and a Pauli of zeros
+//!   m a b           product
+//!   a a b           pauli_anticommutes
+//!   h a             pauli_squares_to_identity
+//!   s a             measurement_phase_sign
+//!   g a q           get, a letter is 0 I, 1 X, 2 Z, 3 Y
+//!   S a q letter    set
+//!   t a             max_support
+//!   i packed bit    insert_zero_bit
+//!   n n             pauli_identity
+//!   b a q           xbit and zbit
+//!   d a len         Display, in a buffer of so many bytes
+//!   p text          pauli_string
+//!
+//! An answer is a number in decimal, 1 and 0 for true and false; `none`; `done`
+//! and a Pauli; the length of a text and, in brackets, the text with dots up to
+//! the length of the buffer. The Rust's errors have no number: that of
+//! measurement_phase_sign is written as `refused 7`, that of pauli_string as
+//! `refused 2 at` an index, followed by a Pauli of zeros.
 #![allow(dead_code)] // the published files hold more than is asked here
 
 mod active;
@@ -39,41 +46,58 @@ const WIDTHS: [usize; 16] = [
 const LETTERS: [Pauli; 4] = [Pauli::I, Pauli::X, Pauli::Z, Pauli::Y];
 const GOOD: &[u8] = b"IXYZ_ixyz";
 const BAD: &[u8] = b"-* 07+W9jA";
+/// The length of the buffer that a Pauli is shown in.
+const BUFFER: usize = 300;
 
-// ---------------------------------------------------------------- one line
+// ----------------------------------------------------------- one question
 
-struct Line(String);
+fn word(word: u64) -> String {
+    format!(" {word:016x}")
+}
 
-impl Line {
-    fn new(op: char) -> Self {
-        Line(op.to_string())
-    }
-
-    fn word(mut self, word: u64) -> Self {
-        self.0 += &format!(" {word:016x}");
-        self
-    }
-
-    fn pauli(mut self, p: &PauliString) -> Self {
-        self = self.word(p.nqubits as u64);
-        for words in [&p.x, &p.z] {
-            assert!(words.len() <= 4);
-            for i in 0..4 {
-                self = self.word(words.get(i).copied().unwrap_or(0));
-            }
+fn words(p: &PauliString) -> String {
+    let mut out = word(p.nqubits as u64);
+    for words in [&p.x, &p.z] {
+        assert!(words.len() <= 4);
+        for i in 0..4 {
+            out += &word(words.get(i).copied().unwrap_or(0));
         }
-        self.word(p.phase_exponent() as u64)
+    }
+    out + &word(p.phase_exponent() as u64)
+}
+
+fn done(p: &PauliString) -> String {
+    format!("done{}", words(p))
+}
+
+fn bit(value: bool) -> String {
+    u8::from(value).to_string()
+}
+
+/// The two files.
+#[derive(Default)]
+struct Record {
+    questions: String,
+    answers: String,
+}
+
+impl Record {
+    fn ask(&mut self, question: String, answer: String) {
+        self.questions += &(question + "\n");
+        self.answers += &(answer + "\n");
     }
 
-    fn text(mut self, text: &str) -> Self {
-        self.0.push(' ');
-        self.0 += text;
-        self
+    fn support(&mut self, p: &PauliString) {
+        let top = p.max_support().map_or("none".into(), |q| q.to_string());
+        self.ask(format!("t{}", words(p)), top);
     }
+}
 
-    fn end(self) {
-        println!("{}", self.0);
-    }
+/// The index of the byte that an error of `pauli_string` is about. The Rust does
+/// not tell it: it is the first byte that by itself is an error.
+fn first_bad(text: &str) -> usize {
+    let is_bad = |&i: &usize| pauli_string(&text[i..=i]).is_err();
+    (0..text.len()).find(is_bad).unwrap()
 }
 
 // ------------------------------------------------------------------- cases
@@ -264,24 +288,25 @@ fn texts(dice: &mut Dice) -> Vec<String> {
 }
 
 fn main() {
+    let folder = std::env::args().nth(1).expect("a folder");
     let dice = &mut Dice(20260816);
+    let mut record = Record::default();
 
     for (a, b) in pairs(dice) {
-        Line::new('m').pauli(&a).pauli(&b).pauli(&(&a * &b)).end();
-        let anti = pauli_anticommutes(&a, &b);
-        Line::new('a').pauli(&a).pauli(&b).word(anti.into()).end();
+        let both = words(&a) + &words(&b);
+        record.ask(format!("m{both}"), done(&(&a * &b)));
+        record.ask(format!("a{both}"), bit(pauli_anticommutes(&a, &b)));
     }
 
     for p in singles(dice) {
-        let sign = measurement_phase_sign(&p).map_or(7, u64::from);
-        let top = p.max_support().map_or(u64::MAX, |q| q as u64);
-        Line::new('h')
-            .pauli(&p)
-            .word(pauli_squares_to_identity(&p).into())
-            .end();
-        Line::new('s').pauli(&p).word(sign).end();
-        Line::new('t').pauli(&p).word(top).end();
-        Line::new('d').pauli(&p).text(&p.to_string()).end();
+        let asked = words(&p);
+        let sign = measurement_phase_sign(&p).map_or("refused 7".into(), bit);
+        let text = p.to_string();
+        let shown = format!("{} [{text:.<BUFFER$}]", text.len());
+        record.ask(format!("h{asked}"), bit(pauli_squares_to_identity(&p)));
+        record.ask(format!("s{asked}"), sign);
+        record.support(&p);
+        record.ask(format!("d{asked}{}", word(BUFFER as u64)), shown);
     }
 
     // The highest letter at each place, nothing or random letters under it.
@@ -291,8 +316,7 @@ fn main() {
             _ if at < q && i % 2 == 0 => dice.below(4),
             _ => 0,
         });
-        let top = p.max_support().map_or(u64::MAX, |q| q as u64);
-        Line::new('t').pauli(&p).word(top).end();
+        record.support(&p);
     }
 
     // Letters asked for: at every place, and every letter at the places of 256.
@@ -302,18 +326,10 @@ fn main() {
     }
     for (i, (n, q)) in asked {
         let p = with_letter(dice, n, q, i % 4, i / 4);
-        let (x, z) = (p.xbit(q), p.zbit(q));
-        Line::new('g')
-            .pauli(&p)
-            .word(q as u64)
-            .word(p.get(q) as u64)
-            .end();
-        Line::new('b')
-            .pauli(&p)
-            .word(q as u64)
-            .word(x.into())
-            .word(z.into())
-            .end();
+        let at = words(&p) + &word(q as u64);
+        let bits = format!("{} {}", bit(p.xbit(q)), bit(p.zbit(q)));
+        record.ask(format!("g{at}"), (p.get(q) as u8).to_string());
+        record.ask(format!("b{at}"), bits);
     }
 
     // Letters set: every old one to every new one at phases 0 and 3, then at every place.
@@ -322,14 +338,10 @@ fn main() {
         if let Some(phase) = phase {
             p.set_phase(phase);
         }
-        let (code, before) = (pair / 4 % 4, p.clone());
+        let code = pair / 4 % 4;
+        let question = format!("S{}{}{}", words(&p), word(q as u64), word(code as u64));
         p.set(q, LETTERS[code]);
-        Line::new('S')
-            .pauli(&before)
-            .word(q as u64)
-            .word(code as u64)
-            .pauli(&p)
-            .end();
+        record.ask(question, done(&p));
     };
     for pair in 0..16 {
         let (n, q) = [(1, 0), (65, 64), (128, 63), (256, 255)][(pair + pair / 4) % 4];
@@ -345,27 +357,27 @@ fn main() {
         let top = 1 << 63;
         let (any, other) = (dice.word() as usize, dice.word() as usize);
         for packed in [bit % 8, usize::MAX, top, top | any, other & !top] {
-            let out = insert_zero_bit(packed, bit);
-            Line::new('i')
-                .word(packed as u64)
-                .word(bit as u64)
-                .word(out as u64)
-                .end();
+            let question = format!("i{}{}", word(packed as u64), word(bit as u64));
+            record.ask(question, insert_zero_bit(packed, bit).to_string());
         }
     }
 
     for n in (0..=256).filter(|n| n % 5 == 0 || WIDTHS.contains(n)) {
-        Line::new('n')
-            .word(n as u64)
-            .pauli(&pauli_identity(n))
-            .end();
+        record.ask(format!("n{}", word(n as u64)), done(&pauli_identity(n)));
     }
 
     for text in texts(dice) {
-        let (ok, p) = match pauli_string(&text) {
-            Ok(p) => (0, p),
-            Err(_) => (2, pauli_identity(0)),
+        let answer = match pauli_string(&text) {
+            Ok(p) => done(&p),
+            Err(_) => {
+                let zeros = words(&pauli_identity(0));
+                format!("refused 2 at {}{zeros}", first_bad(&text))
+            }
         };
-        Line::new('p').word(ok).pauli(&p).text(&text).end();
+        record.ask(format!("p {text}"), answer);
+    }
+
+    for (name, text) in [("stdin", record.questions), ("stdout", record.answers)] {
+        std::fs::write(format!("{folder}/{name}"), text).unwrap();
     }
 }

@@ -28,11 +28,11 @@ module _ (p : ℕ) where
   unfolding openBit
   open-mod j = digits-mod (j / 2 ^ p * 2) (below j)
 
-  drop-div : (b : ℕ) → dropBit p b / 2 ^ p ≡ b / 2 ^ p / 2
+  pub drop-div : (b : ℕ) → dropBit p b / 2 ^ p ≡ b / 2 ^ p / 2
   unfolding dropBit
   drop-div b = digits-div (b / 2 ^ p / 2) (below b)
 
-  drop-mod : (b : ℕ) → dropBit p b % 2 ^ p ≡ b % 2 ^ p
+  pub drop-mod : (b : ℕ) → dropBit p b % 2 ^ p ≡ b % 2 ^ p
   unfolding dropBit
   drop-mod b = digits-mod (b / 2 ^ p / 2) (below b)
 

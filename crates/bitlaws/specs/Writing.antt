@@ -12,7 +12,7 @@ use lib.Pow.{pow-pos, pow-add, shr-lt, high, low}
 use Rattle.bitlaws.specs.Order.{lt-or-gt}
 use Rattle.bitlaws.specs.Digit.{digit, put, mod-two, digit-high, digit-low}
 
-ones-digit : (d : ℕ) → d < 2 → ones d ≡ d
+pub ones-digit : (d : ℕ) → d < 2 → ones d ≡ d
 unfolding ones
 ones-digit zero h = refl
 ones-digit (suc zero) h = refl

@@ -4,3 +4,4 @@ pub mod Algebra
 pub mod Letter
 pub mod Support
 pub mod Fitting
+pub mod Frame

@@ -1,0 +1,2 @@
+pub mod Active
+pub mod Calls

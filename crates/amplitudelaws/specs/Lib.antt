@@ -1,0 +1,10 @@
+pub mod Arithmetic
+pub mod Binary
+pub mod Rotation
+pub mod Promotion
+pub mod Projection
+pub mod Correction
+pub mod Probability
+pub mod State
+pub mod Steps
+pub mod Rows

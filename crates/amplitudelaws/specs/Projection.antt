@@ -1,0 +1,37 @@
+-- The projection of a state on a branch of a measured Pauli, read in the qubits that are left when the pivot is dropped. Assumes nothing.
+use mathlib.Core.Bool.{Bool, true, false, cond}
+use Prim.Native.Nat.{ℕ, _+_}
+use lib.Bits.{bitXor}
+use lib.Dec.{eqb}
+use Rattle.bitlaws.specs.Opening.{openBit}
+use Rattle.bitlaws.specs.Parity.{overlap}
+use Rattle.bitlaws.specs.Source.{source}
+use Rattle.paulilaws.specs.Pauli.{Pauli}
+use Rattle.amplitudelaws.specs.Arithmetic.{Amplitude, Arithmetic, power, conjugate, direction, scale, scaled, mixed}
+
+-- 1 where i^k is -1
+unfoldable pub minus : ℕ → ℕ
+minus k = cond (eqb k 2) 1 0
+
+module _ {R : Type 0} (A : Arithmetic R) where
+  open Arithmetic A using (h)
+
+  -- conj (i^k) h
+  unfoldable pub projectionCoefficient : ℕ → Amplitude R
+  projectionCoefficient k = scaled A (conjugate A (power A k)) h
+
+  -- What branch v leaves at j, before invnorm, by a kernel's masks x and z and its coefficient: the first argument says whether x is 0.
+  -- Then one basis is read, the one with the branch's parity, 1 more of it where i^k is -1 (minus); else two are mixed, w being the
+  -- coefficient or its negative where the branch differs from the parity at the basis.
+  unfoldable pub remainingBy : Bool → ℕ → ℕ → ℕ → Amplitude R → ℕ → ℕ → (ℕ → Amplitude R) → ℕ → Amplitude R
+  remainingBy true x z minus coefficient p v F j = F (source p z (minus + v) j)
+  remainingBy false x z minus coefficient p v F j =
+      let b = openBit p j in
+      mixed A h (scale A (direction A (v + overlap b z)) coefficient) (F b) (F (bitXor b x))
+
+  unfoldable pub remaining : Pauli → ℕ → ℕ → (ℕ → Amplitude R) → ℕ → Amplitude R
+  remaining M = remainingBy (eqb (M .x) 0) (M .x) (M .z) (minus (M .k)) (projectionCoefficient (M .k))
+
+  -- the amplitude at j after the projection of M, pivot p, on branch v
+  unfoldable pub projected : Pauli → ℕ → ℕ → R → (ℕ → Amplitude R) → ℕ → Amplitude R
+  projected M p v invnorm F j = scaled A (remaining M p v F j) invnorm

@@ -1,0 +1,25 @@
+-- A state of n qubits: two lists of which the first 2^n entries are amplitudes. What lies past them is no part of it and is kept. Assumes nothing.
+use mathlib.Core.Bool.{Bool, _&&_}
+use mathlib.Core.List.{List}
+use Prim.Native.Nat.{ℕ, _^_}
+use lib.Dec.{leb}
+use lib.Ieee.{Float, nan}
+use lib.ListN.{length, getD}
+use Rattle.statelaws.specs.Over.{over}
+use Rattle.amplitudelaws.specs.Binary.{Point}
+
+pub record State : Type 0 where
+  pub re : List Float
+  pub im : List Float
+
+-- the amplitude at b
+unfoldable pub point : State → ℕ → Point
+point S b = record { re = getD (S .re) b nan; im = getD (S .im) b nan }
+
+-- the amplitudes of n qubits replaced by F's
+unfoldable pub written : ℕ → (ℕ → Point) → State → State
+written n F S = record { re = over (2 ^ n) (λ b. F b .re) (S .re); im = over (2 ^ n) (λ b. F b .im) (S .im) }
+
+-- both lists have room for n qubits
+unfoldable pub room : ℕ → State → Bool
+room n S = leb (2 ^ n) (length (S .re)) && leb (2 ^ n) (length (S .im))

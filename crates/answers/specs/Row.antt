@@ -1,0 +1,87 @@
+-- The rows of the table as one number: that of the lowest row which refuses a call, 0 where none does. Assumes nothing.
+use mathlib.Core.Path.{_≡_, refl, sym}
+use mathlib.Core.Bool.{Bool, true, false}
+use Prim.Native.Nat.{ℕ, zero, suc, _<_}
+use native.Mathlib.Nat.{zero-lt-suc}
+use native.Mathlib.Omega.{arith}
+use Rattle.answers.specs.Answer.{Answer}
+use Rattle.answers.specs.Answer.Answer.{accepted, refused}
+
+-- row n: where its test holds it is n, else the rows after it decide
+unfoldable pub row : Bool → ℕ → ℕ → ℕ
+row true n rest = n
+row false n rest = rest
+
+-- two groups of rows, the first having the lower numbers
+unfoldable pub first : ℕ → ℕ → ℕ
+first zero rest = rest
+first (suc n) rest = suc n
+
+-- the answer of a call that the rows have looked at
+unfoldable pub answered : {A : Type 0} → ℕ → A → Answer A
+answered zero a = accepted a
+answered (suc n) a = refused (suc n)
+
+-- What a lent buffer holds afterwards: what the call writes, or, where it is refused, what was there.
+unfoldable pub left : {B : Type 0} → ℕ → B → B → B
+left zero new old = new
+left (suc n) new old = old
+
+-- ---- where a row refuses, and where none does
+
+module _ (r : ℕ) where
+  pub first-some : (rest : ℕ) → 0 < r → first r rest ≡ r
+  first-some rest h = go r h
+    where
+      go : (r : ℕ) → 0 < r → first r rest ≡ r
+      go zero h = absurd (omega arith)
+      go (suc r) h = unfold first in refl
+
+  pub first-none : (rest : ℕ) → r ≡ 0 → first r rest ≡ rest
+  unfolding first
+  first-none rest e = rw e
+
+  module _ {A : Type 0} where
+    pub answered-some : (a : A) → 0 < r → answered r a ≡ refused r
+    answered-some a h = go r h
+      where
+        go : (r : ℕ) → 0 < r → answered r a ≡ refused r
+        go zero h = absurd (omega arith)
+        go (suc r) h = unfold answered in refl
+
+    pub answered-none : (a : A) → r ≡ 0 → answered r a ≡ accepted a
+    unfolding answered
+    answered-none a e = rw e
+
+    pub left-some : (new old : A) → 0 < r → left r new old ≡ old
+    left-some new old h = go r h
+      where
+        go : (r : ℕ) → 0 < r → left r new old ≡ old
+        go zero h = absurd (omega arith)
+        go (suc r) h = unfold left in refl
+
+    pub left-none : (new old : A) → r ≡ 0 → left r new old ≡ new
+    unfolding left
+    left-none new old e = rw e
+
+-- ---- and what an answer says about them
+
+some-not-none : {A : Type 0} {a : A} {n : ℕ} → refused n ≡ accepted a → ⊥
+some-not-none e = let z : _≡_ {A = ℕ} 0 1 = cc in omega arith
+
+refused-same : {A : Type 0} {m n : ℕ} → _≡_ {A = Answer A} (refused m) (refused n) → m ≡ n
+refused-same e = cc
+
+accepted-same : {A : Type 0} {a b : A} → accepted a ≡ accepted b → a ≡ b
+accepted-same e = cc
+
+module _ {A : Type 0} where
+  pub refused-row : (r : ℕ) (a : A) (n : ℕ) → refused n ≡ answered r a → (r ≡ n) × (0 < n)
+  unfolding answered
+  refused-row zero a n e = absurd (some-not-none e)
+  refused-row (suc r) a n e = let same : suc r ≡ n = sym (refused-same e) in (same, omega (arith, zero-lt-suc r))
+
+  pub accepted-row : (r : ℕ) (a b : A) → accepted b ≡ answered r a → (r ≡ 0) × (b ≡ a)
+  unfolding answered
+  accepted-row zero a b e = (refl, accepted-same e)
+  accepted-row (suc r) a b e = absurd (some-not-none (sym e))

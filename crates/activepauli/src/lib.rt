@@ -5,17 +5,15 @@
 // The promises are the first layer's own definitions: what `product` or `anti` means there, it means here.
 ghost use mathlib.Core.Path.{_≡_};
 ghost use Prim.Native.Nat.{_+_, _%_, _<_, _^_};
-ghost use lib.Bits.{bitAnd};
-ghost use lib.Count.{ones};
 ghost use lib.Dec.{eqb, ltb};
 ghost use Rattle.bitlaws.specs.Digit.{digit};
 ghost use Rattle.bitlaws.specs.Opening.{dropBit};
 ghost use Rattle.bitlaws.specs.Parity.{overlap};
-ghost use Rattle.paulilaws.specs.Pauli.{fits, hermitian, coefficient};
+ghost use Rattle.paulilaws.specs.Pauli.{fits, hermitian};
 ghost use Rattle.paulis.specs.Calls.{bitCall};
-ghost use Rattle.pauligroup.specs.Calls.{productCall, anticommutesCall, squaresCall};
+ghost use Rattle.pauligroup.specs.Calls.{productCall, anticommutesCall};
 ghost use Rattle.activepauli.specs.Active.{activeOf, pauliTold, bitTold};
-ghost use Rattle.activepauli.specs.Calls.{raisedCall, droppedCall, oneWordCall};
+ghost use Rattle.activepauli.specs.Calls.{raisedCall, droppedCall};
 
 pub struct ActivePauli {
     pub nqubits: usize,
@@ -77,18 +75,8 @@ impl ActivePauli {
         ActiveBitAnswer::Bit((shared(self.x, other.z) + shared(self.z, other.x)) % 2 == 1)
     }
 
-    // True when the operator is Hermitian.
-    pub fn squares_to_identity(self) -> ActiveBitAnswer
-        ensures { λ r. ⌜ bitTold r ≡ squaresCall (activeOf self) ⌝ }
-    {
-        if !self.is_pauli() {
-            return ActiveBitAnswer::Refused(3);
-        }
-        ActiveBitAnswer::Bit(self.is_hermitian())
-    }
-
-    // The same, of fields that a call has looked at or will.
-    fn is_hermitian(self) -> bool
+    // Whether the operator is Hermitian, by its masks and phase alone.
+    pub fn is_hermitian(self) -> bool
         ensures { λ r. ⌜ r ≡ hermitian (activeOf self) ⌝ }
     {
         (self.phase % 2 + shared(self.x, self.z)) % 2 == 0

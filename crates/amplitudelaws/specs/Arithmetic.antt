@@ -1,7 +1,9 @@
 -- A complex amplitude, and the arithmetic in which the formulas are written: binary64 with each rounding, or an exact one. Assumes nothing.
+use mathlib.Core.Path.{_≡_, ap}
 use mathlib.Core.Bool.{Bool, cond}
 use Prim.Native.Nat.{ℕ, zero, suc, _%_}
 use lib.Dec.{eqb}
+use Rattle.bitlaws.specs.Digit.{bitOf, bit-odd}
 
 pub record Amplitude (R : Type 0) : Type 0 where
   pub re : R
@@ -47,6 +49,11 @@ module _ {R : Type 0} (A : Arithmetic R) where
   -- -1 where e is odd, else 1
   unfoldable pub direction : ℕ → R
   direction e = cond (eqb (e % 2) 1) (neg one) one
+
+  -- only the parity of e counts
+  pub direction-bit : (e : ℕ) → direction (bitOf (eqb (e % 2) 1)) ≡ direction e
+  unfolding direction
+  direction-bit e = ap (λ (t : Bool). cond t (neg one) one) (bit-odd (eqb (e % 2) 1))
 
   unfoldable pub negated : Bool → Amplitude R → Amplitude R
   negated t a = record { re = cond t (neg (a .re)) (a .re); im = cond t (neg (a .im)) (a .im) }

@@ -6,5 +6,6 @@ pub mod Projection
 pub mod Correction
 pub mod Probability
 pub mod State
+pub mod Sweeping
 pub mod Steps
 pub mod Rows

@@ -4,7 +4,7 @@ use mathlib.Core.List.{List}
 use Prim.Native.Nat.{ℕ, _^_}
 use lib.Dec.{leb}
 use lib.Ieee.{Float, nan}
-use lib.ListN.{length, getD}
+use lib.ListN.{length, getD, set}
 use Rattle.statelaws.specs.Over.{over}
 use Rattle.amplitudelaws.specs.Binary.{Point}
 
@@ -12,9 +12,16 @@ pub record State : Type 0 where
   pub re : List Float
   pub im : List Float
 
+abbrev pub stateOf : List Float → List Float → State
+stateOf re im = record { re = re; im = im }
+
 -- the amplitude at b
 unfoldable pub point : State → ℕ → Point
 point S b = record { re = getD (S .re) b nan; im = getD (S .im) b nan }
+
+-- amplitude a written at b
+unfoldable pub setPoint : ℕ → Point → State → State
+setPoint b a S = record { re = set (S .re) b (a .re); im = set (S .im) b (a .im) }
 
 -- the amplitudes of n qubits replaced by F's
 unfoldable pub written : ℕ → (ℕ → Point) → State → State

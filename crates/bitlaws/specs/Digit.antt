@@ -1,10 +1,11 @@
 -- The binary digits of a number, or of a mask: reading one, and writing one. Assumes nothing.
-use mathlib.Core.Path.{_≡_, sym, ap, ap₂, _∙_}
+use mathlib.Core.Path.{_≡_, refl, sym, ap, ap₂, _∙_}
+use mathlib.Core.Bool.{Bool, true, false}
 use Prim.Native.Nat.{ℕ, zero, suc, _+_, _-_, _*_, _/_, _%_, _^_, _≤_, _<_}
 use native.Mathlib.Nat.{mod-lt, zero-lt-suc, div-eq-of-lt, div-one, div-add-mod', pow-suc, one-mul}
 use native.Mathlib.Omega.{arith}
 use lib.Arith.{digits-mod, mod-mul}
-use lib.Dec.{lit<}
+use lib.Dec.{eqb, lit<}
 use lib.Pow.{pow-pos, pow-mono, shr-shr, field, shl-exact}
 
 -- digit q of a
@@ -14,6 +15,15 @@ digit q a = a / 2 ^ q % 2
 -- a with d, a digit, written at q: the digits above and below stay
 unfoldable pub put : ℕ → ℕ → ℕ → ℕ
 put q d a = (a / 2 ^ q / 2 * 2 + d) * 2 ^ q + a % 2 ^ q
+
+-- a bool as a digit: sign and branch are bools in the code, 0 or 1 in the formulas
+abbrev pub bitOf : Bool → ℕ
+bitOf true = 1
+bitOf false = 0
+
+pub bit-odd : (t : Bool) → eqb (bitOf t % 2) 1 ≡ t
+bit-odd true = refl
+bit-odd false = refl
 
 -- a remainder by 2 is a digit
 pub mod-two : (n : ℕ) → n % 2 < 2

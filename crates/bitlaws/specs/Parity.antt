@@ -1,12 +1,15 @@
 -- Parity, and the parity of what two masks share, over masks of any width: linear in each. Assumes nothing.
-use mathlib.Core.Path.{_≡_, sym, ap, ap₂, _∙_}
+use mathlib.Core.Path.{_≡_, refl, sym, ap, ap₂, _∙_}
+use mathlib.Core.Bool.{Bool, true, false}
 use Prim.Native.Nat.{ℕ, zero, suc, _+_, _/_, _%_, _<_, min}
 use native.Mathlib.Nat.{zero-lt-suc, add-mod}
 use native.Mathlib.Omega.{arith}
 use lib.Arith.{bin-ind}
 use lib.Bits.{bitAnd, bitXor, differ, xor-shr, and-step, and-shr, and-comm, and-zero-l}
 use lib.Count.{ones, ones-step, ones-le}
-use Rattle.bitlaws.specs.Digit.{mod-two}
+use lib.Dec.{eqb}
+use lib.Ieee.{unlike}
+use Rattle.bitlaws.specs.Digit.{bitOf, mod-two}
 use Rattle.bitlaws.specs.Xor.{xor-odd}
 
 -- the count of ones, modulo 2
@@ -85,3 +88,12 @@ overlap-xor-l a b z = go z a b
 
 pub overlap-xor-r : (z a b : ℕ) → overlap z (bitXor a b) ≡ (overlap z a + overlap z b) % 2
 overlap-xor-r z a b = overlap-comm z (bitXor a b) ∙ overlap-xor-l a b z ∙ ap₂ (λ (p q : ℕ). (p + q) % 2) (overlap-comm a z) (overlap-comm b z)
+
+-- a bit that differs from a parity, and the parity of their sum
+pub bit-differs : (t : Bool) (p : ℕ) → p < 2 → unlike t (eqb p 1) ≡ eqb ((bitOf t + p) % 2) 1
+bit-differs true zero h = refl
+bit-differs true (suc zero) h = refl
+bit-differs true (suc (suc p)) h = absurd (omega arith)
+bit-differs false zero h = refl
+bit-differs false (suc zero) h = refl
+bit-differs false (suc (suc p)) h = absurd (omega arith)

@@ -1,20 +1,15 @@
 -- The mask that four 64-bit words make. Assumes nothing.
-use mathlib.Core.Bool.{Bool, true, false, cond}
+use mathlib.Core.Bool.{Bool, cond}
 use mathlib.Core.List.{List}
 use Prim.Native.Nat.{ℕ}
 use lib.Dec.{ltb}
 use lib.ListN.{getD}
-use Rattle.bitlaws.specs.Digit.{put}
+use Rattle.bitlaws.specs.Digit.{bitOf, put}
 use Rattle.bitlaws.specs.Words.{words}
 
 -- bit q at bit q mod 64 of word q div 64
 unfoldable pub mask : List ℕ → ℕ
 mask w = words 64 (λ i. getD w i 0) 4
-
--- a bool as a digit
-abbrev pub bitOf : Bool → ℕ
-bitOf true = 1
-bitOf false = 0
 
 -- bit q written; past the last of the 256 bits nothing is
 unfoldable pub written : ℕ → Bool → ℕ → ℕ

@@ -14,10 +14,10 @@ use lib.ListN.{length, getD, set}
 use lib.Pow.{pow-pos, pow-add, shr-lt}
 use lib.Seq.{getD-set-same, getD-set-other}
 use borrow.Author.Tests.{lt-ltb, le-ltb}
-use Rattle.bitlaws.specs.Digit.{digit, put, digit-above}
+use Rattle.bitlaws.specs.Digit.{bitOf, digit, put, digit-above}
 use Rattle.bitlaws.specs.Highest.{highest, highest-none, highest-some, power-top}
 use Rattle.bitlaws.specs.Words.{words, total, words-xor, words-or, words-ones, words-at, words-digit, words-put, words-same, words-lt, words-below}
-use Rattle.bits.specs.Mask.{mask, bitOf, written}
+use Rattle.bits.specs.Mask.{mask, written}
 
 -- every word of a list is below 2 ^ 64
 abbrev pub Small : List ℕ → Type 0

@@ -4,7 +4,10 @@ pub mod mask;
 
 ghost use mathlib.Core.Path.{_≡_};
 ghost use lib.Dec.{eqb};
-ghost use Rattle.bitlaws.specs.Parity.{parity};
+ghost use Prim.Native.Nat.{_+_, _%_, _^_};
+ghost use Rattle.bitlaws.specs.Digit.{bitOf};
+ghost use Rattle.bitlaws.specs.Opening.{openBit};
+ghost use Rattle.bitlaws.specs.Parity.{parity, overlap};
 ghost use Rattle.bits.specs.Opening.{told, opening};
 
 // What opening a bit answers: the wider index, or the refusal's number.
@@ -20,6 +23,13 @@ pub fn is_odd_popcount(value: u64) -> bool
     u64::count_ones(value) % 2 == 1
 }
 
+// Whether a bit differs from the parity of what two words share.
+pub fn differs_from_parity(bit: bool, a: u64, b: u64) -> bool
+    ensures { λ r. ⌜ r ≡ eqb ((bitOf bit + overlap a b) % 2) 1 ⌝ }
+{
+    bit ^ is_odd_popcount(a & b)
+}
+
 // Widens `packed` by opening a zero bit at position `bit`: the inverse of dropping qubit `bit` from
 // a basis index. A top bit that would move past bit 63 is lost; a position over 63 is refused by 5.
 pub fn insert_zero_bit(packed: usize, bit: usize) -> Opened
@@ -30,4 +40,14 @@ pub fn insert_zero_bit(packed: usize, bit: usize) -> Opened
     }
     let low_mask = (1usize << bit) - 1;
     Opened::Index((packed & low_mask) | ((packed & !low_mask) << 1))
+}
+
+// The same for any position: from bit 64 on there is nothing above to move.
+pub fn open_bit(packed: usize, bit: usize) -> usize
+    ensures { λ r. ⌜ r ≡ openBit bit packed % 2 ^ 64 ⌝ }
+{
+    let Opened::Index(index) = insert_zero_bit(packed, bit) else {
+        return packed;
+    };
+    index
 }

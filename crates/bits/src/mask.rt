@@ -4,8 +4,8 @@ ghost use Prim.Native.Nat.{_-_, _<_, _≤_, _^_};
 ghost use lib.Bits.{bitAnd, bitXor};
 ghost use lib.Count.{ones};
 ghost use lib.Dec.{eqb, ltb};
-ghost use Rattle.bitlaws.specs.Digit.{digit, put};
-ghost use Rattle.bits.specs.Mask.{mask, bitOf, written};
+ghost use Rattle.bitlaws.specs.Digit.{bitOf, digit, put};
+ghost use Rattle.bits.specs.Mask.{mask, written};
 
 // Whether a bit is set: none is from bit 256 on.
 pub fn packed_bit(words: [u64; 4], bit_index: usize) -> bool

@@ -5,7 +5,8 @@ use crate::PauliString;
 ghost use mathlib.Core.Path.{_≡_};
 ghost use Prim.Native.Nat.{_<_, _≤_};
 ghost use Rattle.paulilaws.specs.Letter as book;
-ghost use Rattle.bits.specs.Mask.{mask, bitOf};
+ghost use Rattle.bitlaws.specs.Digit.{bitOf};
+ghost use Rattle.bits.specs.Mask.{mask};
 ghost use Rattle.paulis.specs.Calls.{bitCall};
 ghost use Rattle.paulis.specs.Strings.{pauliOf, bitTold, letterMeant};
 

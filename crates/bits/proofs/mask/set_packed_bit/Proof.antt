@@ -3,7 +3,8 @@ use mathlib.Core.Path.{_≡_, sym, _∙_}
 use lib.ListN.{length, getD}
 use mir.Val.{Fits}
 use mir.Syntax.{w64}
-use Rattle.bits.specs.Mask.{mask, bitOf}
+use Rattle.bitlaws.specs.Digit.{bitOf}
+use Rattle.bits.specs.Mask.{mask}
 use Rattle.bits.specs.MaskLaws.{Small, mask-put, written-past, written-inside}
 use borrow.Author.Needs.{needs}
 use Rattle.bits.proofs.mask.set_packed_bit.Statement.{statement}

@@ -1,0 +1,6 @@
+-- What the declared type means. Assumes nothing.
+use Rattle.amplitudelaws.specs.Binary.{Point}
+use Rattle.complex.specs.declared.Complex64.{Complex64}
+
+abbrev pub complexOf : Complex64 → Point
+complexOf a = record { re = a .re; im = a .im }

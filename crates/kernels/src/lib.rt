@@ -1,0 +1,197 @@
+// Compact per-Pauli kernels (active.rs).
+//
+// Amplitude `basis` of an n-qubit state is the computational basis state whose qubit q is bit q of
+// `basis`. A basis index fits a machine word, so an action has at most 62 qubits and a kernel 61. The
+// kernels are of a fixed size: coefficients for each basis are derived from the masks as a call runs.
+use activepauli::ActivePauli;
+use complex::Complex64;
+use paulis::PauliString;
+ghost use mathlib.Core.Path.{_≡_};
+ghost use Rattle.answers.specs.Row.{answered};
+ghost use Rattle.paulis.specs.Strings.{pauliOf};
+ghost use Rattle.activepauli.specs.Active.{activeOf};
+ghost use Rattle.amplitudelaws.specs.Rows.{actionRow, rotationKernelRow, measurementRow};
+ghost use Rattle.kernels.specs.Kernel.{actionMeant, actionTold, actionOf, rotationMeant, rotationTold, rotationOf, measurementMeant, measurementTold, measurementOf, defaultPivot, highestOr};
+
+// A Hermitian Pauli reduced to the single-word masks the kernels consume.
+//
+// `even_phase` is the operator's coefficient i^phase; a basis index whose overlap with `zmask` has odd
+// parity picks up `odd_phase`, its negative. `xz_overlap_odd` says whether the two members of an X-pair
+// see opposite parities.
+pub struct ActivePauliAction {
+    pub nqubits: usize,
+    pub xmask: u64,
+    pub zmask: u64,
+    pub even_phase: Complex64,
+    pub odd_phase: Complex64,
+    pub xz_overlap_odd: bool,
+}
+
+pub enum ActionAnswer {
+    Action(ActivePauliAction),
+    Refused(u8),
+}
+
+// Everything c - i s P needs. `pair_bit` is the highest set bit of `xmask`, 0 where there is none;
+// `minus_even_coefficient` is m = (+0, -s) times i^phase.
+pub struct PrecomputedActivePauliRotationKernel {
+    pub action: ActivePauliAction,
+    pub is_diagonal: bool,
+    pub uniform_imag_pairs: bool,
+    pub pair_bit: usize,
+    pub cos_kernel_angle: f64,
+    pub sin_kernel_angle: f64,
+    pub minus_even_coefficient: Complex64,
+}
+
+pub enum RotationKernelAnswer {
+    Kernel(PrecomputedActivePauliRotationKernel),
+    Refused(u8),
+}
+
+// Everything the probability of a branch of P and the projection on it need. `pivot` names the qubit
+// that the measurement consumes: output index j is the input index with bit `pivot` deleted.
+// `diagonal_phase_bit` is set where i^phase is -1; `nondiagonal_coefficient1_even` is w at even parity
+// and branch 0, the conjugate of i^phase times 1/sqrt 2.
+pub struct PrecomputedActivePauliMeasurementKernel {
+    pub action: ActivePauliAction,
+    pub pivot: usize,
+    pub is_diagonal: bool,
+    pub diagonal_phase_bit: bool,
+    pub out_dim: usize,
+    pub nondiagonal_coefficient1_even: Complex64,
+}
+
+pub enum MeasurementKernelAnswer {
+    Kernel(PrecomputedActivePauliMeasurementKernel),
+    Refused(u8),
+}
+
+// What a call on amplitudes answers.
+pub enum StepAnswer {
+    Done,
+    Refused(u8),
+}
+
+impl ActivePauliAction {
+    // Refused by 3, by 6 past 62 qubits and by 7 where the Pauli is not Hermitian.
+    pub fn new(pauli: PauliString) -> ActionAnswer
+        ensures { λ r. ⌜ actionTold r ≡ answered (actionRow (pauliOf pauli)) (actionOf (pauliOf pauli)) ⌝ }
+    {
+        if !pauli.is_pauli() {
+            return ActionAnswer::Refused(3);
+        }
+        if 62 < pauli.nqubits {
+            return ActionAnswer::Refused(6);
+        }
+        let x = pauli.x;
+        let z = pauli.z;
+        let active = ActivePauli {
+            nqubits: pauli.nqubits,
+            x: x[0],
+            z: z[0],
+            phase: pauli.phase,
+        };
+        if !active.is_hermitian() {
+            return ActionAnswer::Refused(7);
+        }
+        ActionAnswer::Action(action(active))
+    }
+}
+
+fn action(pauli: ActivePauli) -> ActivePauliAction
+    ensures { λ r. ⌜ actionMeant r ≡ actionOf (activeOf pauli) ⌝ }
+{
+    let even_phase = complex::phase_factor(pauli.phase);
+    ActivePauliAction {
+        nqubits: pauli.nqubits,
+        xmask: pauli.x,
+        zmask: pauli.z,
+        even_phase,
+        odd_phase: complex::negated(true, even_phase),
+        xz_overlap_odd: bits::is_odd_popcount(pauli.x & pauli.z),
+    }
+}
+
+impl PrecomputedActivePauliRotationKernel {
+    // The cosine and the sine come from the caller. Refused by 3, by 6 past 61 qubits, by 7 and 8.
+    pub fn new(pauli: ActivePauli, c: f64, s: f64) -> RotationKernelAnswer
+        ensures { λ r. ⌜ rotationTold r ≡ answered (rotationKernelRow (activeOf pauli) c s) (rotationOf (activeOf pauli) c s) ⌝ }
+    {
+        let row = rows::rotation_row(pauli, c, s);
+        if row != 0 {
+            return RotationKernelAnswer::Refused(row);
+        }
+        RotationKernelAnswer::Kernel(rotation_kernel(pauli, c, s))
+    }
+}
+
+fn rotation_kernel(pauli: ActivePauli, c: f64, s: f64) -> PrecomputedActivePauliRotationKernel
+    ensures { λ r. ⌜ rotationMeant r ≡ rotationOf (activeOf pauli) c s ⌝ }
+{
+    let action = action(pauli);
+    let is_diagonal = pauli.x == 0;
+    PrecomputedActivePauliRotationKernel {
+        action,
+        is_diagonal,
+        uniform_imag_pairs: !is_diagonal & (pauli.z == 0),
+        pair_bit: highest_bit(pauli.x),
+        cos_kernel_angle: c,
+        sin_kernel_angle: s,
+        minus_even_coefficient: complex::times(
+            Complex64 {
+                re: 0.0,
+                im: -s,
+            },
+            action.even_phase,
+        ),
+    }
+}
+
+impl PrecomputedActivePauliMeasurementKernel {
+    // Picks the pivot: the highest X qubit, else the highest Z qubit.
+    pub fn from_pauli(pauli: ActivePauli) -> MeasurementKernelAnswer
+        ensures { λ r. ⌜ measurementTold r ≡ answered (measurementRow (activeOf pauli) (defaultPivot (activeOf pauli)) Bool.false) (measurementOf (activeOf pauli) (defaultPivot (activeOf pauli))) ⌝ }
+    {
+        PrecomputedActivePauliMeasurementKernel::with_pivot(
+            pauli,
+            highest_bit(rows::pivot_mask(pauli)),
+        )
+    }
+
+    // Refused by 3, by 6 past 61 qubits, by 7 and by 9 to 12.
+    pub fn with_pivot(pauli: ActivePauli, pivot: usize) -> MeasurementKernelAnswer
+        ensures { λ r. ⌜ measurementTold r ≡ answered (measurementRow (activeOf pauli) pivot Bool.false) (measurementOf (activeOf pauli) pivot) ⌝ }
+    {
+        let row = rows::measurement_row(pauli, pivot, false);
+        if row != 0 {
+            return MeasurementKernelAnswer::Refused(row);
+        }
+        MeasurementKernelAnswer::Kernel(measurement_kernel(pauli, pivot))
+    }
+}
+
+fn measurement_kernel(pauli: ActivePauli, pivot: usize) -> PrecomputedActivePauliMeasurementKernel
+    requires { ⌜ (0 < pauli .nqubits) × (pauli .nqubits ≤ 64) ⌝ }
+    ensures { λ r. ⌜ measurementMeant r ≡ measurementOf (activeOf pauli) pivot ⌝ }
+{
+    let action = action(pauli);
+    PrecomputedActivePauliMeasurementKernel {
+        action,
+        pivot,
+        is_diagonal: pauli.x == 0,
+        diagonal_phase_bit: pauli.phase == 2,
+        out_dim: 1usize << (pauli.nqubits - 1),
+        nondiagonal_coefficient1_even: complex::scaled(complex::conjugate(action.even_phase), f64::from_bits(0x3FE6A09E667F3BCD)),
+    }
+}
+
+// The highest set bit of a word, 0 where none is.
+fn highest_bit(word: u64) -> usize
+    ensures { λ r. ⌜ r ≡ highestOr word ⌝ }
+{
+    if word == 0 {
+        return 0;
+    }
+    (63 - u64::leading_zeros(word)) as usize
+}

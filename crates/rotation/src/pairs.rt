@@ -1,0 +1,128 @@
+// An X part: the amplitudes at b and b xor x rotate together. The pairs are counted by the basis without
+// `pair_bit`, which x has.
+use complex::Complex64;
+ghost use mathlib.Core.Path.{_≡_};
+ghost use mathlib.Core.Bool.{true, false};
+ghost use Prim.Native.Nat.{_+_, _≤_, _<_, _^_};
+ghost use lib.ListN.{length};
+ghost use Rattle.statelaws.specs.Pairs.{Pivoted};
+ghost use Rattle.bitlaws.specs.Digit.{bitOf};
+ghost use Rattle.bitlaws.specs.Parity.{overlap};
+ghost use Rattle.amplitudelaws.specs.Arithmetic.{direction, scale, mixed};
+ghost use Rattle.amplitudelaws.specs.Binary.{binary};
+ghost use Rattle.amplitudelaws.specs.Rotation.{rotatedBy, rotatedWith};
+ghost use Rattle.amplitudelaws.specs.State.{stateOf, point, setPoint, written};
+ghost use Rattle.complex.specs.Complex.{complexOf};
+
+// z = 0: the same coefficient t for every pair, of which only the imaginary part is not zero.
+pub(crate) fn rotate_uniform_imag_pairs(
+    re: &mut [f64],
+    im: &mut [f64],
+    nqubits: usize,
+    pair_bit: usize,
+    xmask: u64,
+    sign: bool,
+    c: f64,
+    m: Complex64,
+)
+    requires { ⌜ Pivoted nqubits «pair_bit» xmask × (nqubits ≤ 61) × (2 ^ nqubits ≤ length (now re)) × (2 ^ nqubits ≤ length (now im)) ⌝ }
+    ensures { λ _. ⌜ stateOf (now (re .exit)) (now (im .exit)) ≡ written nqubits (rotatedBy binary false true xmask 0 (bitOf sign) c (complexOf m) (point (stateOf (now (re .entry)) (now (im .entry))))) (stateOf (now (re .entry)) (now (im .entry))) ⌝ }
+{
+    let t = complex::negated(sign, m);
+    let half = 1usize << (nqubits - 1);
+    let mut k = 0;
+    while k < half {
+        let left = bits::open_bit(k, pair_bit);
+        rotate_imag_pair(re, im, left, left ^ xmask as usize, c, t);
+        k += 1;
+    }
+}
+
+fn rotate_imag_pair(
+    re: &mut [f64],
+    im: &mut [f64],
+    left: usize,
+    right: usize,
+    c: f64,
+    t: Complex64,
+)
+    requires { ⌜ (left < length (now re)) × (left < length (now im)) × (right < length (now re)) × (right < length (now im)) ⌝ }
+    ensures { λ _. ⌜ stateOf (now (re .exit)) (now (im .exit)) ≡ setPoint right (rotatedWith binary c (complexOf t) (point (stateOf (now (re .entry)) (now (im .entry))) right) (point (stateOf (now (re .entry)) (now (im .entry))) left)) (setPoint left (rotatedWith binary c (complexOf t) (point (stateOf (now (re .entry)) (now (im .entry))) left) (point (stateOf (now (re .entry)) (now (im .entry))) right)) (stateOf (now (re .entry)) (now (im .entry)))) ⌝ }
+{
+    let p = Complex64 {
+        re: re[left],
+        im: im[left],
+    };
+    let q = Complex64 {
+        re: re[right],
+        im: im[right],
+    };
+    let a = crate::formula::rotated_with(c, t, p, q);
+    let b = crate::formula::rotated_with(c, t, q, p);
+    re[left] = a.re;
+    im[left] = a.im;
+    re[right] = b.re;
+    im[right] = b.im;
+}
+
+// The general case: each member's coefficient takes its sign from the parity at its partner.
+pub(crate) fn rotate_pairs(
+    re: &mut [f64],
+    im: &mut [f64],
+    nqubits: usize,
+    pair_bit: usize,
+    xmask: u64,
+    zmask: u64,
+    sign: bool,
+    c: f64,
+    m: Complex64,
+)
+    requires { ⌜ Pivoted nqubits «pair_bit» xmask × (nqubits ≤ 61) × (2 ^ nqubits ≤ length (now re)) × (2 ^ nqubits ≤ length (now im)) ⌝ }
+    ensures { λ _. ⌜ stateOf (now (re .exit)) (now (im .exit)) ≡ written nqubits (rotatedBy binary false false xmask zmask (bitOf sign) c (complexOf m) (point (stateOf (now (re .entry)) (now (im .entry))))) (stateOf (now (re .entry)) (now (im .entry))) ⌝ }
+{
+    let half = 1usize << (nqubits - 1);
+    let mut k = 0;
+    while k < half {
+        let left = bits::open_bit(k, pair_bit);
+        let right = left ^ xmask as usize;
+        let to_left = signed(sign, right as u64, zmask, m);
+        let to_right = signed(sign, left as u64, zmask, m);
+        rotate_pair(re, im, left, right, c, to_left, to_right);
+        k += 1;
+    }
+}
+
+// m, times -1 where the sign differs from the parity at the partner, else times 1.
+fn signed(sign: bool, partner: u64, zmask: u64, m: Complex64) -> Complex64
+    ensures { λ r. ⌜ complexOf r ≡ scale binary (direction binary (bitOf sign + overlap partner zmask)) (complexOf m) ⌝ }
+{
+    complex::scale(complex::direction(bits::differs_from_parity(sign, partner, zmask)), m)
+}
+
+fn rotate_pair(
+    re: &mut [f64],
+    im: &mut [f64],
+    left: usize,
+    right: usize,
+    c: f64,
+    to_left: Complex64,
+    to_right: Complex64,
+)
+    requires { ⌜ (left < length (now re)) × (left < length (now im)) × (right < length (now re)) × (right < length (now im)) ⌝ }
+    ensures { λ _. ⌜ stateOf (now (re .exit)) (now (im .exit)) ≡ setPoint right (mixed binary c (complexOf «to_right») (point (stateOf (now (re .entry)) (now (im .entry))) right) (point (stateOf (now (re .entry)) (now (im .entry))) left)) (setPoint left (mixed binary c (complexOf «to_left») (point (stateOf (now (re .entry)) (now (im .entry))) left) (point (stateOf (now (re .entry)) (now (im .entry))) right)) (stateOf (now (re .entry)) (now (im .entry)))) ⌝ }
+{
+    let p = Complex64 {
+        re: re[left],
+        im: im[left],
+    };
+    let q = Complex64 {
+        re: re[right],
+        im: im[right],
+    };
+    let a = complex::mixed(c, to_left, p, q);
+    let b = complex::mixed(c, to_right, q, p);
+    re[left] = a.re;
+    im[left] = a.im;
+    re[right] = b.re;
+    im[right] = b.im;
+}

@@ -1,6 +1,5 @@
 -- What the declared types mean. Assumes nothing.
 use mathlib.Core.Bool.{Bool}
-use Prim.Native.Nat.{ℕ}
 use Rattle.answers.specs.Answer.{Answer}
 use Rattle.answers.specs.Answer.Answer.{accepted, refused}
 use Rattle.paulilaws.specs.Pauli.{Pauli}

@@ -4,7 +4,7 @@
 //
 // The promises are the first layer's own definitions: what `product` or `anti` means there, it means here.
 ghost use mathlib.Core.Path.{_≡_};
-ghost use Prim.Native.Nat.{_+_, _%_, _<_, _^_};
+ghost use Prim.Native.Nat.{_<_, _^_};
 ghost use lib.Dec.{eqb, ltb};
 ghost use Rattle.bitlaws.specs.Digit.{digit};
 ghost use Rattle.bitlaws.specs.Opening.{dropBit};
@@ -58,7 +58,7 @@ impl ActivePauli {
             nqubits: self.nqubits,
             x: self.x ^ rhs.x,
             z: self.z ^ rhs.z,
-            phase: raised_by(self.phase, rhs.phase + 2 * shared(self.z, rhs.x)),
+            phase: (self.phase % 4 + rhs.phase % 4 + 2 * shared(self.z, rhs.x)) % 4,
         })
     }
 
@@ -93,7 +93,7 @@ impl ActivePauli {
             nqubits: self.nqubits,
             x: self.x,
             z: self.z,
-            phase: raised_by(self.phase, exponent),
+            phase: (self.phase % 4 + exponent % 4) % 4,
         })
     }
 
@@ -119,27 +119,28 @@ impl ActivePauli {
     pub fn x_bit(self, q: usize) -> ActiveBitAnswer
         ensures { λ r. ⌜ bitTold r ≡ bitCall (activeOf self) (self .x) q ⌝ }
     {
-        if !self.is_pauli() {
-            return ActiveBitAnswer::Refused(3);
-        }
-        if self.nqubits <= q {
-            return ActiveBitAnswer::Refused(5);
-        }
-        ActiveBitAnswer::Bit(word_bit(self.x, q))
+        mask_bit(self, self.x, q)
     }
 
     // Whether qubit `q` has a Z component.
     pub fn z_bit(self, q: usize) -> ActiveBitAnswer
         ensures { λ r. ⌜ bitTold r ≡ bitCall (activeOf self) (self .z) q ⌝ }
     {
-        if !self.is_pauli() {
-            return ActiveBitAnswer::Refused(3);
-        }
-        if self.nqubits <= q {
-            return ActiveBitAnswer::Refused(5);
-        }
-        ActiveBitAnswer::Bit(word_bit(self.z, q))
+        mask_bit(self, self.z, q)
     }
+}
+
+// Qubit q's bit of a mask of the Pauli, which is looked at here.
+fn mask_bit(pauli: ActivePauli, word: u64, q: usize) -> ActiveBitAnswer
+    ensures { λ r. ⌜ bitTold r ≡ bitCall (activeOf pauli) word q ⌝ }
+{
+    if !pauli.is_pauli() {
+        return ActiveBitAnswer::Refused(3);
+    }
+    if pauli.nqubits <= q {
+        return ActiveBitAnswer::Refused(5);
+    }
+    ActiveBitAnswer::Bit(word_bit(word, q))
 }
 
 // Whether a word is below 2^width.
@@ -178,10 +179,4 @@ fn drop_bit(word: u64, q: usize) -> u64
     }
     let one = 1u64 << q;
     (word >> q) / 2 * one + word % one
-}
-
-fn raised_by(phase: u8, exponent: u8) -> u8
-    ensures { λ r. ⌜ r ≡ (phase + exponent) % 4 ⌝ }
-{
-    (phase % 4 + exponent % 4) % 4
 }

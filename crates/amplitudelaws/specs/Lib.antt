@@ -7,5 +7,7 @@ pub mod Correction
 pub mod Probability
 pub mod State
 pub mod Sweeping
+pub mod Pairing
 pub mod Steps
 pub mod Rows
+pub mod Passed

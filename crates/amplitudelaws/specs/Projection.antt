@@ -1,8 +1,9 @@
 -- The projection of a state on a branch of a measured Pauli, read in the qubits that are left when the pivot is dropped. Assumes nothing.
-use mathlib.Core.Bool.{Bool, true, false, cond}
+use mathlib.Core.Bool.{Bool, true, false}
 use Prim.Native.Nat.{ℕ, _+_}
 use lib.Bits.{bitXor}
 use lib.Dec.{eqb}
+use Rattle.bitlaws.specs.Digit.{bitOf}
 use Rattle.bitlaws.specs.Opening.{openBit}
 use Rattle.bitlaws.specs.Parity.{overlap}
 use Rattle.bitlaws.specs.Source.{source}
@@ -11,7 +12,7 @@ use Rattle.amplitudelaws.specs.Arithmetic.{Amplitude, Arithmetic, power,
 
 -- 1 where i^k is -1
 unfoldable pub minus : ℕ → ℕ
-minus k = cond (eqb k 2) 1 0
+minus k = bitOf (eqb k 2)
 
 module _ {R : Type 0} (A : Arithmetic R) where
   open Arithmetic A using (h)

@@ -59,8 +59,12 @@ roomRow enough = row (not enough) 13 0
 unfoldable pub rotationRow : Pauli → Float → Float → State → ℕ
 rotationRow P c s S = first (rotationKernelRow P c s) (roomRow (room (P .n) S))
 
+-- 3 and 6 of a width without a Pauli
+unfoldable pub promotedWidthRow : ℕ → ℕ
+promotedWidthRow n = first (row (ltb mostQubits n) 3 0) (row (ltb widestPromotion n) 6 0)
+
 unfoldable pub promotionRow : ℕ → Float → Float → State → ℕ
-promotionRow n c q S = first (row (ltb mostQubits n) 3 (row (ltb widestPromotion n) 6 0)) (first (unitRow c q) (roomRow (room (suc n) S)))
+promotionRow n c q S = first (promotedWidthRow n) (first (unitRow c q) (roomRow (room (suc n) S)))
 
 -- a projection with an X part needs room for what it leaves in the scratch too
 unfoldable pub projectionRow : Pauli → ℕ → Float → State → State → ℕ

@@ -1,5 +1,5 @@
 -- The rows of the table as one number: that of the lowest row which refuses a call, 0 where none does. Assumes nothing.
-use mathlib.Core.Path.{_≡_, refl, sym}
+use mathlib.Core.Path.{_≡_, refl, sym, ap, _∙_}
 use mathlib.Core.Bool.{Bool, true, false}
 use Prim.Native.Nat.{ℕ, zero, suc, _<_}
 use native.Mathlib.Nat.{zero-lt-suc}
@@ -64,6 +64,18 @@ module _ (r : ℕ) where
     unfolding left
     left-none new old e = rw e
 
+-- ---- what is known where none refuses
+
+pub row-passed : (t : Bool) (n rest : ℕ) → 0 < n → row t n rest ≡ 0 → (t ≡ false) × (rest ≡ 0)
+unfolding row
+row-passed true n rest h e = absurd (omega arith)
+row-passed false n rest h e = (refl, e)
+
+pub first-passed : (r rest : ℕ) → first r rest ≡ 0 → (r ≡ 0) × (rest ≡ 0)
+unfolding first
+first-passed zero rest e = (refl, e)
+first-passed (suc r) rest e = absurd (omega arith)
+
 -- ---- and what an answer says about them
 
 some-not-none : {A : Type 0} {a : A} {n : ℕ} → refused n ≡ accepted a → ⊥
@@ -85,3 +97,18 @@ module _ {A : Type 0} where
   unfolding answered
   accepted-row zero a b e = (refl, accepted-same e)
   accepted-row (suc r) a b e = absurd (some-not-none (sym e))
+
+-- ---- a call that looks at its rows, is refused by the number r that they give, and else does its work
+
+module _ {A B : Type 0} (R : ℕ) (a : A) (new old : B) where
+  pub refusing : (r : ℕ) → r ≡ R → (r ≡ 0 → ⊥) → (refused r ≡ answered R a) × (old ≡ left R new old)
+  refusing r e ne =
+      let some : 0 < R = above R (λ z. ne (e ∙ z)) in
+      (ap refused e ∙ sym (answered-some R a some), sym (left-some R new old some))
+    where
+      above : (n : ℕ) → (n ≡ 0 → ⊥) → 0 < n
+      above zero h = absurd (h refl)
+      above (suc n) h = zero-lt-suc n
+
+  pub passing : (done : B) → R ≡ 0 → done ≡ new → (accepted a ≡ answered R a) × (done ≡ left R new old)
+  passing done e is = (sym (answered-none R a e), is ∙ sym (left-none R new old e))

@@ -1,7 +1,7 @@
 -- A bit of a mask opened, and dropped, at any place. Assumes nothing.
 use mathlib.Core.Path.{_≡_, ap, _∙_, subst}
 use Prim.Native.Nat.{ℕ, suc, _+_, _-_, _*_, _/_, _%_, _^_, _≤_, _<_}
-use native.Mathlib.Nat.{mod-lt, div-add-mod', mul-right-comm, pow-suc}
+use native.Mathlib.Nat.{mod-lt, mod-eq-of-lt, div-eq-of-lt, div-add-mod', mul-right-comm, pow-suc}
 use native.Mathlib.Omega.{arith}
 use lib.Arith.{digits-lt, digits-div, digits-mod}
 use lib.Pow.{pow-pos, pow-add, shr-lt}
@@ -35,6 +35,11 @@ module _ (p : ℕ) where
   pub drop-mod : (b : ℕ) → dropBit p b % 2 ^ p ≡ b % 2 ^ p
   unfolding dropBit
   drop-mod b = digits-mod (b / 2 ^ p / 2) (below b)
+
+  -- above all bits of j there is nothing to move
+  pub open-small : (j : ℕ) → j < 2 ^ p → openBit p j ≡ j
+  unfolding openBit
+  open-small j h = omega (arith, ap (λ (m : ℕ). m * 2 * 2 ^ p) (div-eq-of-lt h), mod-eq-of-lt h)
 
   pub open-clear : (j : ℕ) → digit p (openBit p j) ≡ 0
   unfolding digit

@@ -102,30 +102,30 @@ actionMeant a = record {
   n = a .nqubits;
   x = a .xmask;
   z = a .zmask;
-  even = complexOf (a .even-phase);
-  odd = complexOf (a .odd-phase);
-  crossed = a .xz-overlap-odd;
+  even = complexOf (a .«even_phase»);
+  odd = complexOf (a .«odd_phase»);
+  crossed = a .«xz_overlap_odd»;
 }
 
 abbrev pub rotationMeant : PrecomputedActivePauliRotationKernel → RotationKernel
 rotationMeant r = record {
   action = actionMeant (r .action);
-  diagonal = r .is-diagonal;
-  imaginary = r .uniform-imag-pairs;
-  pairBit = r .pair-bit;
-  cosine = r .cos-kernel-angle;
-  sine = r .sin-kernel-angle;
-  m = complexOf (r .minus-even-coefficient);
+  diagonal = r .«is_diagonal»;
+  imaginary = r .«uniform_imag_pairs»;
+  pairBit = r .«pair_bit»;
+  cosine = r .«cos_kernel_angle»;
+  sine = r .«sin_kernel_angle»;
+  m = complexOf (r .«minus_even_coefficient»);
 }
 
 abbrev pub measurementMeant : PrecomputedActivePauliMeasurementKernel → MeasurementKernel
 measurementMeant r = record {
   action = actionMeant (r .action);
   pivot = r .pivot;
-  diagonal = r .is-diagonal;
-  minus = r .diagonal-phase-bit;
-  outputs = r .out-dim;
-  coefficient = complexOf (r .nondiagonal-coefficient1-even);
+  diagonal = r .«is_diagonal»;
+  minus = r .«diagonal_phase_bit»;
+  outputs = r .«out_dim»;
+  coefficient = complexOf (r .«nondiagonal_coefficient1_even»);
 }
 
 abbrev pub actionTold : ActionAnswer → Answer Action

@@ -7,6 +7,8 @@ use activepauli::ActivePauli;
 use complex::Complex64;
 use paulis::PauliString;
 ghost use mathlib.Core.Path.{_≡_};
+ghost use mathlib.Core.Bool.{false};
+ghost use Prim.Native.Nat.{_<_, _≤_};
 ghost use Rattle.answers.specs.Row.{answered};
 ghost use Rattle.paulis.specs.Strings.{pauliOf};
 ghost use Rattle.activepauli.specs.Active.{activeOf};
@@ -86,10 +88,12 @@ impl ActivePauliAction {
         }
         let x = pauli.x;
         let z = pauli.z;
+        let xmask = x[0];
+        let zmask = z[0];
         let active = ActivePauli {
             nqubits: pauli.nqubits,
-            x: x[0],
-            z: z[0],
+            x: xmask,
+            z: zmask,
             phase: pauli.phase,
         };
         if !active.is_hermitian() {
@@ -138,20 +142,14 @@ fn rotation_kernel(pauli: ActivePauli, c: f64, s: f64) -> PrecomputedActivePauli
         pair_bit: highest_bit(pauli.x),
         cos_kernel_angle: c,
         sin_kernel_angle: s,
-        minus_even_coefficient: complex::times(
-            Complex64 {
-                re: 0.0,
-                im: -s,
-            },
-            action.even_phase,
-        ),
+        minus_even_coefficient: complex::times(Complex64 { re: 0.0, im: -s }, action.even_phase),
     }
 }
 
 impl PrecomputedActivePauliMeasurementKernel {
     // Picks the pivot: the highest X qubit, else the highest Z qubit.
     pub fn from_pauli(pauli: ActivePauli) -> MeasurementKernelAnswer
-        ensures { λ r. ⌜ measurementTold r ≡ answered (measurementRow (activeOf pauli) (defaultPivot (activeOf pauli)) Bool.false) (measurementOf (activeOf pauli) (defaultPivot (activeOf pauli))) ⌝ }
+        ensures { λ r. ⌜ measurementTold r ≡ answered (measurementRow (activeOf pauli) (defaultPivot (activeOf pauli)) false) (measurementOf (activeOf pauli) (defaultPivot (activeOf pauli))) ⌝ }
     {
         PrecomputedActivePauliMeasurementKernel::with_pivot(
             pauli,
@@ -161,7 +159,7 @@ impl PrecomputedActivePauliMeasurementKernel {
 
     // Refused by 3, by 6 past 61 qubits, by 7 and by 9 to 12.
     pub fn with_pivot(pauli: ActivePauli, pivot: usize) -> MeasurementKernelAnswer
-        ensures { λ r. ⌜ measurementTold r ≡ answered (measurementRow (activeOf pauli) pivot Bool.false) (measurementOf (activeOf pauli) pivot) ⌝ }
+        ensures { λ r. ⌜ measurementTold r ≡ answered (measurementRow (activeOf pauli) pivot false) (measurementOf (activeOf pauli) pivot) ⌝ }
     {
         let row = rows::measurement_row(pauli, pivot, false);
         if row != 0 {
@@ -176,18 +174,22 @@ fn measurement_kernel(pauli: ActivePauli, pivot: usize) -> PrecomputedActivePaul
     ensures { λ r. ⌜ measurementMeant r ≡ measurementOf (activeOf pauli) pivot ⌝ }
 {
     let action = action(pauli);
+    let even = action.even_phase;
+    let conjugate = complex::conjugate(even);
+    let h = f64::from_bits(0x3FE6A09E667F3BCD);
+    let out_dim = 1usize << (pauli.nqubits - 1);
     PrecomputedActivePauliMeasurementKernel {
         action,
         pivot,
         is_diagonal: pauli.x == 0,
         diagonal_phase_bit: pauli.phase == 2,
-        out_dim: 1usize << (pauli.nqubits - 1),
-        nondiagonal_coefficient1_even: complex::scaled(complex::conjugate(action.even_phase), f64::from_bits(0x3FE6A09E667F3BCD)),
+        out_dim,
+        nondiagonal_coefficient1_even: complex::scaled(conjugate, h),
     }
 }
 
 // The highest set bit of a word, 0 where none is.
-fn highest_bit(word: u64) -> usize
+pub fn highest_bit(word: u64) -> usize
     ensures { λ r. ⌜ r ≡ highestOr word ⌝ }
 {
     if word == 0 {

@@ -16,11 +16,11 @@ pub record Fitting (P : Pauli) : Type 0 where
   pub xs : P .x < 2 ^ P .n
   pub zs : P .z < 2 ^ P .n
 
-both-left : (p q : Bool) → (p && q) ≡ true → p ≡ true
+pub both-left : (p q : Bool) → (p && q) ≡ true → p ≡ true
 both-left true q e = refl
 both-left false q e = e
 
-both-right : (p q : Bool) → (p && q) ≡ true → q ≡ true
+pub both-right : (p q : Bool) → (p && q) ≡ true → q ≡ true
 both-right true q e = e
 both-right false q e = absurd (let z : _≡_ {A = ℕ} 0 1 = cc in omega arith)
 

@@ -30,15 +30,7 @@ pub(crate) fn rotate_diagonal(
     }
 }
 
-fn rotate_at(
-    re: &mut [f64],
-    im: &mut [f64],
-    b: usize,
-    zmask: u64,
-    sign: bool,
-    c: f64,
-    m: Complex64,
-)
+fn rotate_at(re: &mut [f64], im: &mut [f64], b: usize, zmask: u64, sign: bool, c: f64, m: Complex64)
     requires { ⌜ (b < length (now re)) × (b < length (now im)) ⌝ }
     ensures { λ _. ⌜ stateOf (now (re .exit)) (now (im .exit)) ≡ setPoint b (rotatedBy binary true true 0 zmask (bitOf sign) c (complexOf m) (point (stateOf (now (re .entry)) (now (im .entry)))) b) (stateOf (now (re .entry)) (now (im .entry))) ⌝ }
 {

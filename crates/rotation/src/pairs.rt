@@ -38,14 +38,7 @@ pub(crate) fn rotate_uniform_imag_pairs(
     }
 }
 
-fn rotate_imag_pair(
-    re: &mut [f64],
-    im: &mut [f64],
-    left: usize,
-    right: usize,
-    c: f64,
-    t: Complex64,
-)
+fn rotate_imag_pair(re: &mut [f64], im: &mut [f64], left: usize, right: usize, c: f64, t: Complex64)
     requires { ⌜ (left < length (now re)) × (left < length (now im)) × (right < length (now re)) × (right < length (now im)) ⌝ }
     ensures { λ _. ⌜ stateOf (now (re .exit)) (now (im .exit)) ≡ setPoint right (rotatedWith binary c (complexOf t) (point (stateOf (now (re .entry)) (now (im .entry))) right) (point (stateOf (now (re .entry)) (now (im .entry))) left)) (setPoint left (rotatedWith binary c (complexOf t) (point (stateOf (now (re .entry)) (now (im .entry))) left) (point (stateOf (now (re .entry)) (now (im .entry))) right)) (stateOf (now (re .entry)) (now (im .entry)))) ⌝ }
 {
@@ -96,7 +89,10 @@ pub(crate) fn rotate_pairs(
 fn signed(sign: bool, partner: u64, zmask: u64, m: Complex64) -> Complex64
     ensures { λ r. ⌜ complexOf r ≡ scale binary (direction binary (bitOf sign + overlap partner zmask)) (complexOf m) ⌝ }
 {
-    complex::scale(complex::direction(bits::differs_from_parity(sign, partner, zmask)), m)
+    complex::scale(
+        complex::direction(bits::differs_from_parity(sign, partner, zmask)),
+        m,
+    )
 }
 
 fn rotate_pair(

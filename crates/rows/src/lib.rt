@@ -3,7 +3,6 @@
 // take the first.
 use activepauli::ActivePauli;
 ghost use mathlib.Core.Path.{_≡_};
-ghost use mathlib.Core.Bool.{not};
 ghost use Prim.Native.Nat.{_^_};
 ghost use lib.Dec.{leb, eqb};
 ghost use lib.Ieee.Scale.{finite};
@@ -87,7 +86,9 @@ pub fn unit_row(c: f64, s: f64) -> u8
 pub fn rotation_row(pauli: ActivePauli, c: f64, s: f64) -> u8
     ensures { λ r. ⌜ r ≡ rotationKernelRow (activeOf pauli) c s ⌝ }
 {
-    first(hermitian_row(pauli, 61), unit_row(c, s))
+    let hermitian = hermitian_row(pauli, 61);
+    let unit = unit_row(c, s);
+    first(hermitian, unit)
 }
 
 // The mask that the pivot must be in: x, or z where x is 0.
@@ -118,7 +119,10 @@ pub fn pivot_row(pauli: ActivePauli, pivot: usize) -> u8
 pub fn measurement_row(pauli: ActivePauli, pivot: usize, unfit: bool) -> u8
     ensures { λ r. ⌜ r ≡ measurementRow (activeOf pauli) pivot unfit ⌝ }
 {
-    first(hermitian_row(pauli, 61), first(row(unfit, 8), pivot_row(pauli, pivot)))
+    first(
+        hermitian_row(pauli, 61),
+        first(row(unfit, 8), pivot_row(pauli, pivot)),
+    )
 }
 
 // None is set from bit 64 on.

@@ -1,0 +1,37 @@
+// A Pauli fired as a pulse: the amplitude at b moves to b xor x, times a power of i, in place over the
+// first 2^n amplitudes. What lies past them is kept.
+mod moves;
+
+use activepauli::ActivePauli;
+use kernels::StepAnswer;
+ghost use mathlib.Core.Path.{_≡_};
+ghost use mathlib.Core.Bool.{_&&_};
+ghost use Prim.Native.Nat.{_^_};
+ghost use lib.Dec.{leb};
+ghost use Rattle.answers.specs.Row as table;
+ghost use Rattle.activepauli.specs.Active.{activeOf};
+ghost use Rattle.amplitudelaws.specs.Rows.{widestKernel, widthRow, roomRow, correctionRow};
+ghost use Rattle.amplitudelaws.specs.State.{stateOf};
+ghost use Rattle.amplitudelaws.specs.Steps.{correction};
+ghost use Rattle.kernels.specs.Kernel.{stepTold, finished};
+
+// Refused by 3, by 6 past 61 qubits and by 13 where a buffer is too short.
+pub fn correct_contiguous_active(re: &mut [f64], im: &mut [f64], pauli: ActivePauli) -> StepAnswer
+    ensures answer { λ r. ⌜ stepTold r ≡ table.answered (correctionRow (activeOf pauli) (stateOf (now (re .entry)) (now (im .entry)))) finished ⌝ }
+    ensures state { λ _. ⌜ stateOf (now (re .exit)) (now (im .exit)) ≡ table.left (correctionRow (activeOf pauli) (stateOf (now (re .entry)) (now (im .entry)))) (correction (activeOf pauli) (stateOf (now (re .entry)) (now (im .entry)))) (stateOf (now (re .entry)) (now (im .entry))) ⌝ }
+{
+    let row = refusal(re.len(), im.len(), pauli);
+    if row != 0 {
+        return StepAnswer::Refused(row);
+    }
+    moves::correct(re, im, pauli);
+    StepAnswer::Done
+}
+
+// The row that refuses, for buffers of these lengths; 0 where none does.
+fn refusal(re_len: usize, im_len: usize, pauli: ActivePauli) -> u8
+    ensures { λ r. ⌜ r ≡ table.first (widthRow widestKernel (activeOf pauli)) (roomRow (leb (2 ^ (pauli .nqubits)) «re_len» && leb (2 ^ (pauli .nqubits)) «im_len»)) ⌝ }
+{
+    let room = rows::has_room(pauli.nqubits, re_len) & rows::has_room(pauli.nqubits, im_len);
+    rows::first(rows::width_row(pauli, 61), rows::room_row(room))
+}

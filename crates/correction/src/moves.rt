@@ -1,0 +1,97 @@
+// The amplitudes moved: each by itself where there is no X part, else in pairs that change places.
+use activepauli::ActivePauli;
+use complex::Complex64;
+ghost use mathlib.Core.Path.{_≡_};
+ghost use Prim.Native.Nat.{_+_, _*_, _%_, _≤_, _<_, _^_};
+ghost use lib.ListN.{length};
+ghost use Rattle.bitlaws.specs.Parity.{overlap};
+ghost use Rattle.statelaws.specs.Pairs.{Pivoted};
+ghost use Rattle.amplitudelaws.specs.Arithmetic.{quarters};
+ghost use Rattle.amplitudelaws.specs.Binary.{binary};
+ghost use Rattle.amplitudelaws.specs.Correction.{corrected};
+ghost use Rattle.amplitudelaws.specs.State.{stateOf, point, setPoint, written};
+ghost use Rattle.activepauli.specs.Active.{activeOf};
+
+pub(crate) fn correct(re: &mut [f64], im: &mut [f64], pauli: ActivePauli)
+    requires { ⌜ (pauli .nqubits ≤ 61) × (pauli .x < 2 ^ (pauli .nqubits)) × (2 ^ (pauli .nqubits) ≤ length (now re)) × (2 ^ (pauli .nqubits) ≤ length (now im)) ⌝ }
+    ensures { λ _. ⌜ stateOf (now (re .exit)) (now (im .exit)) ≡ written (pauli .nqubits) (corrected binary (activeOf pauli) (point (stateOf (now (re .entry)) (now (im .entry))))) (stateOf (now (re .entry)) (now (im .entry))) ⌝ }
+{
+    if pauli.x == 0 {
+        correct_alone(re, im, pauli);
+    } else {
+        correct_pairs(re, im, pauli, kernels::highest_bit(pauli.x));
+    }
+}
+
+fn correct_alone(re: &mut [f64], im: &mut [f64], pauli: ActivePauli)
+    requires { ⌜ (pauli .nqubits ≤ 61) × (pauli .x ≡ 0) × (2 ^ (pauli .nqubits) ≤ length (now re)) × (2 ^ (pauli .nqubits) ≤ length (now im)) ⌝ }
+    ensures { λ _. ⌜ stateOf (now (re .exit)) (now (im .exit)) ≡ written (pauli .nqubits) (corrected binary (activeOf pauli) (point (stateOf (now (re .entry)) (now (im .entry))))) (stateOf (now (re .entry)) (now (im .entry))) ⌝ }
+{
+    let dim = 1usize << pauli.nqubits;
+    let mut b = 0;
+    while b < dim {
+        turn_at(re, im, b, exponent(pauli.phase, b as u64, pauli.z));
+        b += 1;
+    }
+}
+
+// k + 2 parity(basis and z), modulo 4.
+fn exponent(phase: u8, basis: u64, zmask: u64) -> u8
+    ensures { λ r. ⌜ r ≡ (phase + 2 * overlap basis zmask) % 4 ⌝ }
+{
+    if bits::is_odd_popcount(basis & zmask) {
+        return (phase % 4 + 2) % 4;
+    }
+    phase % 4
+}
+
+fn turn_at(re: &mut [f64], im: &mut [f64], b: usize, exponent: u8)
+    requires { ⌜ (b < length (now re)) × (b < length (now im)) ⌝ }
+    ensures { λ _. ⌜ stateOf (now (re .exit)) (now (im .exit)) ≡ setPoint b (quarters binary exponent (point (stateOf (now (re .entry)) (now (im .entry))) b)) (stateOf (now (re .entry)) (now (im .entry))) ⌝ }
+{
+    let a = complex::quarters(
+        exponent,
+        Complex64 {
+            re: re[b],
+            im: im[b],
+        },
+    );
+    re[b] = a.re;
+    im[b] = a.im;
+}
+
+fn correct_pairs(re: &mut [f64], im: &mut [f64], pauli: ActivePauli, pair_bit: usize)
+    requires { ⌜ (pauli .nqubits ≤ 61) × Pivoted (pauli .nqubits) «pair_bit» (pauli .x) × (2 ^ (pauli .nqubits) ≤ length (now re)) × (2 ^ (pauli .nqubits) ≤ length (now im)) ⌝ }
+    ensures { λ _. ⌜ stateOf (now (re .exit)) (now (im .exit)) ≡ written (pauli .nqubits) (corrected binary (activeOf pauli) (point (stateOf (now (re .entry)) (now (im .entry))))) (stateOf (now (re .entry)) (now (im .entry))) ⌝ }
+{
+    let half = 1usize << (pauli.nqubits - 1);
+    let mut k = 0;
+    while k < half {
+        let left = bits::open_bit(k, pair_bit);
+        let right = left ^ pauli.x as usize;
+        let to_left = exponent(pauli.phase, right as u64, pauli.z);
+        let to_right = exponent(pauli.phase, left as u64, pauli.z);
+        exchange(re, im, left, right, to_left, to_right);
+        k += 1;
+    }
+}
+
+fn exchange(re: &mut [f64], im: &mut [f64], left: usize, right: usize, to_left: u8, to_right: u8)
+    requires { ⌜ (left < length (now re)) × (left < length (now im)) × (right < length (now re)) × (right < length (now im)) ⌝ }
+    ensures { λ _. ⌜ stateOf (now (re .exit)) (now (im .exit)) ≡ setPoint right (quarters binary «to_right» (point (stateOf (now (re .entry)) (now (im .entry))) left)) (setPoint left (quarters binary «to_left» (point (stateOf (now (re .entry)) (now (im .entry))) right)) (stateOf (now (re .entry)) (now (im .entry)))) ⌝ }
+{
+    let p = Complex64 {
+        re: re[left],
+        im: im[left],
+    };
+    let q = Complex64 {
+        re: re[right],
+        im: im[right],
+    };
+    let a = complex::quarters(to_left, q);
+    let b = complex::quarters(to_right, p);
+    re[left] = a.re;
+    im[left] = a.im;
+    re[right] = b.re;
+    im[right] = b.im;
+}

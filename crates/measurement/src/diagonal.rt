@@ -1,0 +1,54 @@
+// No X part: each output reads the one basis that has the branch's parity. Safe in place: every basis
+// read is at least its output index.
+use kernels::PrecomputedActivePauliMeasurementKernel;
+ghost use mathlib.Core.Path.{_≡_};
+ghost use mathlib.Core.Bool.{true, false};
+ghost use Prim.Native.Nat.{_-_, _≤_, _<_, _^_};
+ghost use lib.ListN.{length};
+ghost use Rattle.bitlaws.specs.Digit.{bitOf};
+ghost use Rattle.amplitudelaws.specs.Arithmetic.{scaled};
+ghost use Rattle.amplitudelaws.specs.Binary.{binary};
+ghost use Rattle.amplitudelaws.specs.State.{stateOf, point, setPoint, written};
+ghost use Rattle.complex.specs.Complex.{complexOf};
+ghost use Rattle.kernels.specs.Kernel.{measurementMeant};
+ghost use Rattle.measurement.specs.Measured.{kernelRemaining, Measurable};
+ghost use Rattle.bitlaws.specs.Source as basis;
+
+pub(crate) fn project_diagonal(
+    re: &mut [f64],
+    im: &mut [f64],
+    kernel: PrecomputedActivePauliMeasurementKernel,
+    branch: bool,
+    invnorm: f64,
+)
+    requires { ⌜ Measurable (measurementMeant kernel) × (kernel .is-diagonal ≡ true) × (2 ^ (kernel .action .nqubits) ≤ length (now re)) × (2 ^ (kernel .action .nqubits) ≤ length (now im)) ⌝ }
+    ensures { λ _. ⌜ stateOf (now (re .exit)) (now (im .exit)) ≡ written (kernel .action .nqubits - 1) (λ j. scaled binary (kernelRemaining (measurementMeant kernel) (bitOf branch) (point (stateOf (now (re .entry)) (now (im .entry)))) j) invnorm) (stateOf (now (re .entry)) (now (im .entry))) ⌝ }
+{
+    let odd = kernel.diagonal_phase_bit ^ branch;
+    let mut j = 0;
+    while j < kernel.out_dim {
+        let from = source(j, kernel.pivot, kernel.action.zmask, odd);
+        gather(re, im, j, from, invnorm);
+        j += 1;
+    }
+}
+
+// The basis whose bits without the pivot are `packed` and whose parity with z is `odd`.
+pub(crate) fn source(packed: usize, pivot: usize, zmask: u64, odd: bool) -> usize
+    requires { ⌜ (pivot ≤ 60) × (packed < 2 ^ 60) ⌝ }
+    ensures { λ r. ⌜ r ≡ basis.source pivot zmask (bitOf odd) packed ⌝ }
+{
+    let without_pivot = bits::open_bit(packed, pivot);
+    if bits::differs_from_parity(odd, without_pivot as u64, zmask) {
+        return without_pivot + (1usize << pivot);
+    }
+    without_pivot
+}
+
+fn gather(re: &mut [f64], im: &mut [f64], j: usize, from: usize, invnorm: f64)
+    requires { ⌜ (j < length (now re)) × (j < length (now im)) × (from < length (now re)) × (from < length (now im)) ⌝ }
+    ensures { λ _. ⌜ stateOf (now (re .exit)) (now (im .exit)) ≡ setPoint j (scaled binary (point (stateOf (now (re .entry)) (now (im .entry))) from) invnorm) (stateOf (now (re .entry)) (now (im .entry))) ⌝ }
+{
+    re[j] = re[from] * invnorm;
+    im[j] = im[from] * invnorm;
+}

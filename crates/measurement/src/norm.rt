@@ -1,0 +1,76 @@
+// The squared length of what a branch leaves, and its clamp.
+use complex::Complex64;
+use kernels::PrecomputedActivePauliMeasurementKernel;
+ghost use mathlib.Core.Path.{_≡_};
+ghost use mathlib.Core.Bool.{true, false};
+ghost use Prim.Native.Nat.{_-_, _≤_, _<_, _^_};
+ghost use lib.ListN.{length};
+ghost use Rattle.bitlaws.specs.Digit.{bitOf};
+ghost use Rattle.amplitudelaws.specs.Arithmetic.{scaled};
+ghost use Rattle.amplitudelaws.specs.Binary.{binary};
+ghost use Rattle.amplitudelaws.specs.State.{stateOf, point, setPoint, written};
+ghost use Rattle.complex.specs.Complex.{complexOf};
+ghost use Rattle.kernels.specs.Kernel.{measurementMeant};
+ghost use Rattle.measurement.specs.Measured.{kernelRemaining, Measurable};
+ghost use Rattle.amplitudelaws.specs.Binary as float;
+ghost use Rattle.amplitudelaws.specs.Probability as sums;
+
+// From 0, output index rising.
+pub(crate) fn mass(
+    re: &[f64],
+    im: &[f64],
+    kernel: PrecomputedActivePauliMeasurementKernel,
+    branch: bool,
+) -> f64
+    requires { ⌜ Measurable (measurementMeant kernel) × (2 ^ (kernel .action .nqubits) ≤ length (now re)) × (2 ^ (kernel .action .nqubits) ≤ length (now im)) ⌝ }
+    ensures { λ r. ⌜ r ≡ sums.total binary (2 ^ (kernel .action .nqubits - 1)) (λ j. sums.squared binary (kernelRemaining (measurementMeant kernel) (bitOf branch) (point (stateOf (now (re .entry)) (now (im .entry)))) j)) ⌝ }
+{
+    let mut sum = 0.0;
+    let mut j = 0;
+    while j < kernel.out_dim {
+        sum += squared(remaining(re, im, kernel, branch, j));
+        j += 1;
+    }
+    sum
+}
+
+// What the branch leaves at output j, before invnorm.
+fn remaining(
+    re: &[f64],
+    im: &[f64],
+    kernel: PrecomputedActivePauliMeasurementKernel,
+    branch: bool,
+    j: usize,
+) -> Complex64
+    requires { ⌜ Measurable (measurementMeant kernel) × (j < 2 ^ (kernel .action .nqubits - 1)) × (2 ^ (kernel .action .nqubits) ≤ length (now re)) × (2 ^ (kernel .action .nqubits) ≤ length (now im)) ⌝ }
+    ensures { λ r. ⌜ complexOf r ≡ kernelRemaining (measurementMeant kernel) (bitOf branch) (point (stateOf (now (re .entry)) (now (im .entry)))) j ⌝ }
+{
+    if !kernel.is_diagonal {
+        return crate::mixing::mixture(re, im, kernel, branch, j);
+    }
+    let odd = kernel.diagonal_phase_bit ^ branch;
+    let from = crate::diagonal::source(j, kernel.pivot, kernel.action.zmask, odd);
+    Complex64 {
+        re: re[from],
+        im: im[from],
+    }
+}
+
+fn squared(a: Complex64) -> f64
+    ensures { λ r. ⌜ r ≡ sums.squared binary (complexOf a) ⌝ }
+{
+    a.re * a.re + a.im * a.im
+}
+
+// Below 0 gives 0, above 1 gives 1; a NaN is neither and stays.
+pub(crate) fn clamped(p: f64) -> f64
+    ensures { λ r. ⌜ r ≡ float.clamped p ⌝ }
+{
+    if p < 0.0 {
+        return 0.0;
+    }
+    if 1.0 < p {
+        return 1.0;
+    }
+    p
+}

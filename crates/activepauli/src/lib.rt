@@ -4,9 +4,7 @@
 //
 // The promises are the first layer's own definitions: what `product` or `anti` means there, it means here.
 ghost use mathlib.Core.Path.{_≡_};
-ghost use Prim.Native.Nat.{_<_, _^_};
-ghost use lib.Dec.{eqb, ltb};
-ghost use Rattle.bitlaws.specs.Digit.{digit};
+ghost use Prim.Native.Nat.{_<_};
 ghost use Rattle.bitlaws.specs.Opening.{dropBit};
 ghost use Rattle.bitlaws.specs.Parity.{overlap};
 ghost use Rattle.paulilaws.specs.Pauli.{fits, hermitian};
@@ -40,8 +38,8 @@ impl ActivePauli {
     {
         (self.phase <= 3)
             & (self.nqubits <= 256)
-            & word_fits(self.x, self.nqubits)
-            & word_fits(self.z, self.nqubits)
+            & bits::mask::word_fits(self.x, self.nqubits)
+            & bits::mask::word_fits(self.z, self.nqubits)
     }
 
     // The product, in which `rhs` acts first.
@@ -140,27 +138,7 @@ fn mask_bit(pauli: ActivePauli, word: u64, q: usize) -> ActiveBitAnswer
     if pauli.nqubits <= q {
         return ActiveBitAnswer::Refused(5);
     }
-    ActiveBitAnswer::Bit(word_bit(word, q))
-}
-
-// Whether a word is below 2^width.
-fn word_fits(word: u64, width: usize) -> bool
-    ensures { λ r. ⌜ r ≡ ltb word (2 ^ width) ⌝ }
-{
-    if 64 <= width {
-        return true;
-    }
-    word >> width == 0
-}
-
-// Whether bit q of a word is set: none is from bit 64 on.
-fn word_bit(word: u64, q: usize) -> bool
-    ensures { λ r. ⌜ r ≡ eqb (digit q word) 1 ⌝ }
-{
-    if 64 <= q {
-        return false;
-    }
-    (word >> q) % 2 == 1
+    ActiveBitAnswer::Bit(bits::word_bit(word, q))
 }
 
 // The parity of the bits that two words share.

@@ -5,7 +5,7 @@ pub mod mask;
 ghost use mathlib.Core.Path.{_≡_};
 ghost use lib.Dec.{eqb};
 ghost use Prim.Native.Nat.{_+_, _%_, _^_};
-ghost use Rattle.bitlaws.specs.Digit.{bitOf};
+ghost use Rattle.bitlaws.specs.Digit.{bitOf, digit};
 ghost use Rattle.bitlaws.specs.Opening.{openBit};
 ghost use Rattle.bitlaws.specs.Parity.{parity, overlap};
 ghost use Rattle.bits.specs.Opening.{told, opening};
@@ -21,6 +21,16 @@ pub fn is_odd_popcount(value: u64) -> bool
     ensures { λ r. ⌜ r ≡ eqb (parity value) 1 ⌝ }
 {
     u64::count_ones(value) % 2 == 1
+}
+
+// Whether bit q of a word is set: none is from bit 64 on.
+pub fn word_bit(word: u64, q: usize) -> bool
+    ensures { λ r. ⌜ r ≡ eqb (digit q word) 1 ⌝ }
+{
+    if 64 <= q {
+        return false;
+    }
+    (word >> q) % 2 == 1
 }
 
 // Whether a bit differs from the parity of what two words share.

@@ -74,7 +74,7 @@ pub fn mask_fits(words: [u64; 4], width: usize) -> bool
 }
 
 // Whether a word is below 2^width.
-fn word_fits(word: u64, width: usize) -> bool
+pub fn word_fits(word: u64, width: usize) -> bool
     ensures { λ r. ⌜ r ≡ ltb word (2 ^ width) ⌝ }
 {
     if 64 <= width {

@@ -2,17 +2,16 @@
 // read is at least its output index.
 use kernels::PrecomputedActivePauliMeasurementKernel;
 ghost use mathlib.Core.Path.{_≡_};
-ghost use mathlib.Core.Bool.{true, false};
+ghost use mathlib.Core.Bool.{true};
 ghost use Prim.Native.Nat.{_-_, _≤_, _<_, _^_};
 ghost use lib.ListN.{length};
 ghost use Rattle.bitlaws.specs.Digit.{bitOf};
+ghost use Rattle.bitlaws.specs.Source as basis;
 ghost use Rattle.amplitudelaws.specs.Arithmetic.{scaled};
 ghost use Rattle.amplitudelaws.specs.Binary.{binary};
 ghost use Rattle.amplitudelaws.specs.State.{stateOf, point, setPoint, written};
-ghost use Rattle.complex.specs.Complex.{complexOf};
 ghost use Rattle.kernels.specs.Kernel.{measurementMeant};
-ghost use Rattle.measurement.specs.Measured.{kernelRemaining, Measurable};
-ghost use Rattle.bitlaws.specs.Source as basis;
+ghost use Rattle.measurement.specs.Measured.{kernelProjected, Measurable, Holding};
 
 pub(crate) fn project_diagonal(
     re: &mut [f64],
@@ -21,8 +20,8 @@ pub(crate) fn project_diagonal(
     branch: bool,
     invnorm: f64,
 )
-    requires { ⌜ Measurable (measurementMeant kernel) × (kernel .is-diagonal ≡ true) × (2 ^ (kernel .action .nqubits) ≤ length (now re)) × (2 ^ (kernel .action .nqubits) ≤ length (now im)) ⌝ }
-    ensures { λ _. ⌜ stateOf (now (re .exit)) (now (im .exit)) ≡ written (kernel .action .nqubits - 1) (λ j. scaled binary (kernelRemaining (measurementMeant kernel) (bitOf branch) (point (stateOf (now (re .entry)) (now (im .entry)))) j) invnorm) (stateOf (now (re .entry)) (now (im .entry))) ⌝ }
+    requires { ⌜ Measurable (measurementMeant kernel) × (kernel .«is_diagonal» ≡ true) × Holding (kernel .action .nqubits) (stateOf (now re) (now im)) ⌝ }
+    ensures { λ _. ⌜ stateOf (now (re .exit)) (now (im .exit)) ≡ written (kernel .action .nqubits - 1) (kernelProjected (measurementMeant kernel) (bitOf branch) invnorm (stateOf (now (re .entry)) (now (im .entry)))) (stateOf (now (re .entry)) (now (im .entry))) ⌝ }
 {
     let odd = kernel.diagonal_phase_bit ^ branch;
     let mut j = 0;

@@ -1,6 +1,7 @@
 // The probability of a branch of a measured Pauli, and the projection on it (contiguous.rs, the scalar
 // loops): 2^n amplitudes become the low 2^(n-1), output index j being the basis without the pivot's bit.
 // Upper halves and what lies past the state are kept.
+mod amplitude;
 mod diagonal;
 mod mixing;
 mod norm;
@@ -10,14 +11,16 @@ use kernels::MeasurementKernelAnswer;
 use kernels::PrecomputedActivePauliMeasurementKernel;
 use kernels::StepAnswer;
 ghost use mathlib.Core.Path.{_≡_};
+ghost use mathlib.Core.Bool.{false};
+ghost use Prim.Native.Nat.{_-_};
 ghost use Rattle.answers.specs.Row as table;
 ghost use Rattle.bitlaws.specs.Digit.{bitOf};
 ghost use Rattle.activepauli.specs.Active.{activeOf};
 ghost use Rattle.amplitudelaws.specs.Rows.{projectionRow, probabilityRow};
-ghost use Rattle.amplitudelaws.specs.State.{stateOf};
+ghost use Rattle.amplitudelaws.specs.State.{stateOf, room, written};
 ghost use Rattle.amplitudelaws.specs.Steps.{projection, scratchAfter, probability};
-ghost use Rattle.kernels.specs.Kernel.{stepTold, finished};
-ghost use Rattle.measurement.specs.Measured.{probabilityTold};
+ghost use Rattle.kernels.specs.Kernel.{measurementMeant, stepTold, finished};
+ghost use Rattle.measurement.specs.Measured.{probabilityTold, kernelProjected, kernelScratch, Measurable, Holding};
 
 pub enum ProbabilityAnswer {
     Probability(f64),
@@ -38,8 +41,7 @@ pub fn probability_contiguous(
     match PrecomputedActivePauliMeasurementKernel::with_pivot(pauli, pivot) {
         MeasurementKernelAnswer::Refused(row) => ProbabilityAnswer::Refused(row),
         MeasurementKernelAnswer::Kernel(kernel) => {
-            if !(rows::has_room(pauli.nqubits, re.len())
-                & rows::has_room(pauli.nqubits, im.len())) {
+            if !has_room(re, im, pauli.nqubits) {
                 return ProbabilityAnswer::Refused(13);
             }
             ProbabilityAnswer::Probability(norm::clamped(norm::mass(re, im, kernel, branch)))
@@ -64,21 +66,70 @@ pub fn project_contiguous(
     ensures state { λ _. ⌜ stateOf (now (re .exit)) (now (im .exit)) ≡ table.left (projectionRow (activeOf pauli) pivot invnorm (stateOf (now (re .entry)) (now (im .entry))) (stateOf (now («scratch_re» .entry)) (now («scratch_im» .entry)))) (projection (activeOf pauli) pivot (bitOf branch) invnorm (stateOf (now (re .entry)) (now (im .entry)))) (stateOf (now (re .entry)) (now (im .entry))) ⌝ }
     ensures scratch { λ _. ⌜ stateOf (now («scratch_re» .exit)) (now («scratch_im» .exit)) ≡ table.left (projectionRow (activeOf pauli) pivot invnorm (stateOf (now (re .entry)) (now (im .entry))) (stateOf (now («scratch_re» .entry)) (now («scratch_im» .entry)))) (scratchAfter (activeOf pauli) pivot (bitOf branch) invnorm (stateOf (now (re .entry)) (now (im .entry))) (stateOf (now («scratch_re» .entry)) (now («scratch_im» .entry)))) (stateOf (now («scratch_re» .entry)) (now («scratch_im» .entry))) ⌝ }
 {
-    // 8, of invnorm, stands between the kernel's rows: so they are asked for before the kernel is built.
-    let row = rows::measurement_row(pauli, pivot, !rows::is_finite(invnorm));
+    let row = projection_row(re, im, scratch_re, scratch_im, pauli, pivot, invnorm);
     if row != 0 {
         return StepAnswer::Refused(row);
     }
     match PrecomputedActivePauliMeasurementKernel::with_pivot(pauli, pivot) {
+        // Never: the rows of a kernel are among those above.
         MeasurementKernelAnswer::Refused(row) => StepAnswer::Refused(row),
-        MeasurementKernelAnswer::Kernel(kernel) => project(
-            re,
-            im,
-            scratch_re,
-            scratch_im,
-            kernel,
-            branch,
-            invnorm,
-        )
+        MeasurementKernelAnswer::Kernel(kernel) => {
+            project(re, im, scratch_re, scratch_im, kernel, branch, invnorm);
+            StepAnswer::Done
+        }
     }
+}
+
+// All rows of a projection. 8, of invnorm, stands between those of a kernel.
+fn projection_row(
+    re: &[f64],
+    im: &[f64],
+    scratch_re: &[f64],
+    scratch_im: &[f64],
+    pauli: ActivePauli,
+    pivot: usize,
+    invnorm: f64,
+) -> u8
+    ensures { λ r. ⌜ r ≡ projectionRow (activeOf pauli) pivot invnorm (stateOf (now (re .entry)) (now (im .entry))) (stateOf (now («scratch_re» .entry)) (now («scratch_im» .entry))) ⌝ }
+{
+    let left = below(pauli.nqubits);
+    let enough = has_room(re, im, pauli.nqubits)
+        & ((pauli.x == 0) | has_room(scratch_re, scratch_im, left));
+    rows::first(
+        rows::measurement_row(pauli, pivot, !rows::is_finite(invnorm)),
+        rows::room_row(enough),
+    )
+}
+
+fn has_room(re: &[f64], im: &[f64], nqubits: usize) -> bool
+    ensures { λ r. ⌜ r ≡ room nqubits (stateOf (now (re .entry)) (now (im .entry))) ⌝ }
+{
+    rows::has_room(nqubits, re.len()) & rows::has_room(nqubits, im.len())
+}
+
+fn below(nqubits: usize) -> usize
+    ensures { λ r. ⌜ r ≡ nqubits - 1 ⌝ }
+{
+    if nqubits == 0 { 0 } else { nqubits - 1 }
+}
+
+fn project(
+    re: &mut [f64],
+    im: &mut [f64],
+    scratch_re: &mut [f64],
+    scratch_im: &mut [f64],
+    kernel: PrecomputedActivePauliMeasurementKernel,
+    branch: bool,
+    invnorm: f64,
+)
+    requires { ⌜ Measurable (measurementMeant kernel) × Holding (kernel .action .nqubits) (stateOf (now re) (now im)) × (kernel .«is_diagonal» ≡ false → Holding (kernel .action .nqubits - 1) (stateOf (now «scratch_re») (now «scratch_im»))) ⌝ }
+    ensures state { λ _. ⌜ stateOf (now (re .exit)) (now (im .exit)) ≡ written (kernel .action .nqubits - 1) (kernelProjected (measurementMeant kernel) (bitOf branch) invnorm (stateOf (now (re .entry)) (now (im .entry)))) (stateOf (now (re .entry)) (now (im .entry))) ⌝ }
+    ensures scratch { λ _. ⌜ stateOf (now («scratch_re» .exit)) (now («scratch_im» .exit)) ≡ kernelScratch (measurementMeant kernel) (bitOf branch) invnorm (stateOf (now (re .entry)) (now (im .entry))) (stateOf (now («scratch_re» .entry)) (now («scratch_im» .entry))) ⌝ }
+{
+    if kernel.is_diagonal {
+        diagonal::project_diagonal(re, im, kernel, branch, invnorm);
+        return;
+    }
+    mixing::project_to_scratch(re, im, scratch_re, scratch_im, kernel, branch, invnorm);
+    mixing::copy_back(re, im, scratch_re, scratch_im, kernel.action.nqubits - 1);
 }

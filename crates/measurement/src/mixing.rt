@@ -1,18 +1,16 @@
 // An X part: each output mixes two inputs, so this cannot run in place; it writes the compacted state into
 // the caller's scratch and copies it back.
+use crate::amplitude;
 use complex::Complex64;
 use kernels::PrecomputedActivePauliMeasurementKernel;
 ghost use mathlib.Core.Path.{_≡_};
-ghost use mathlib.Core.Bool.{true, false};
+ghost use mathlib.Core.Bool.{false};
 ghost use Prim.Native.Nat.{_-_, _≤_, _<_, _^_};
-ghost use lib.ListN.{length};
 ghost use Rattle.bitlaws.specs.Digit.{bitOf};
-ghost use Rattle.amplitudelaws.specs.Arithmetic.{scaled};
-ghost use Rattle.amplitudelaws.specs.Binary.{binary};
-ghost use Rattle.amplitudelaws.specs.State.{stateOf, point, setPoint, written};
+ghost use Rattle.amplitudelaws.specs.State.{stateOf, point, written};
 ghost use Rattle.complex.specs.Complex.{complexOf};
 ghost use Rattle.kernels.specs.Kernel.{measurementMeant};
-ghost use Rattle.measurement.specs.Measured.{kernelRemaining, Measurable};
+ghost use Rattle.measurement.specs.Measured.{kernelRemaining, kernelProjected, Measurable, Holding};
 
 // What the branch leaves at output j, before invnorm.
 pub(crate) fn mixture(
@@ -22,7 +20,7 @@ pub(crate) fn mixture(
     branch: bool,
     j: usize,
 ) -> Complex64
-    requires { ⌜ Measurable (measurementMeant kernel) × (kernel .is-diagonal ≡ false) × (j < 2 ^ (kernel .action .nqubits - 1)) × (2 ^ (kernel .action .nqubits) ≤ length (now re)) × (2 ^ (kernel .action .nqubits) ≤ length (now im)) ⌝ }
+    requires { ⌜ Measurable (measurementMeant kernel) × (kernel .«is_diagonal» ≡ false) × (j < 2 ^ (kernel .action .nqubits - 1)) × Holding (kernel .action .nqubits) (stateOf (now re) (now im)) ⌝ }
     ensures { λ r. ⌜ complexOf r ≡ kernelRemaining (measurementMeant kernel) (bitOf branch) (point (stateOf (now (re .entry)) (now (im .entry)))) j ⌝ }
 {
     let source0 = bits::open_bit(j, kernel.pivot);
@@ -32,15 +30,12 @@ pub(crate) fn mixture(
         complex::direction(odd),
         kernel.nondiagonal_coefficient1_even,
     );
-    let p = Complex64 {
-        re: re[source0],
-        im: im[source0],
-    };
-    let q = Complex64 {
-        re: re[source1],
-        im: im[source1],
-    };
-    complex::mixed(f64::from_bits(0x3FE6A09E667F3BCD), w, p, q)
+    complex::mixed(
+        f64::from_bits(0x3FE6A09E667F3BCD),
+        w,
+        amplitude::read(re, im, source0),
+        amplitude::read(re, im, source1),
+    )
 }
 
 pub(crate) fn project_to_scratch(
@@ -52,23 +47,15 @@ pub(crate) fn project_to_scratch(
     branch: bool,
     invnorm: f64,
 )
-    requires { ⌜ Measurable (measurementMeant kernel) × (kernel .is-diagonal ≡ false) × (2 ^ (kernel .action .nqubits) ≤ length (now re)) × (2 ^ (kernel .action .nqubits) ≤ length (now im)) × (2 ^ (kernel .action .nqubits - 1) ≤ length (now «scratch_re»)) × (2 ^ (kernel .action .nqubits - 1) ≤ length (now «scratch_im»)) ⌝ }
-    ensures { λ _. ⌜ stateOf (now («scratch_re» .exit)) (now («scratch_im» .exit)) ≡ written (kernel .action .nqubits - 1) (λ j. scaled binary (kernelRemaining (measurementMeant kernel) (bitOf branch) (point (stateOf (now (re .entry)) (now (im .entry)))) j) invnorm) (stateOf (now («scratch_re» .entry)) (now («scratch_im» .entry))) ⌝ }
+    requires { ⌜ Measurable (measurementMeant kernel) × (kernel .«is_diagonal» ≡ false) × Holding (kernel .action .nqubits) (stateOf (now re) (now im)) × Holding (kernel .action .nqubits - 1) (stateOf (now «scratch_re») (now «scratch_im»)) ⌝ }
+    ensures { λ _. ⌜ stateOf (now («scratch_re» .exit)) (now («scratch_im» .exit)) ≡ written (kernel .action .nqubits - 1) (kernelProjected (measurementMeant kernel) (bitOf branch) invnorm (stateOf (now (re .entry)) (now (im .entry)))) (stateOf (now («scratch_re» .entry)) (now («scratch_im» .entry))) ⌝ }
 {
     let mut j = 0;
     while j < kernel.out_dim {
         let a = complex::scaled(mixture(re, im, kernel, branch, j), invnorm);
-        store(scratch_re, scratch_im, j, a);
+        amplitude::write(scratch_re, scratch_im, j, a);
         j += 1;
     }
-}
-
-fn store(re: &mut [f64], im: &mut [f64], j: usize, a: Complex64)
-    requires { ⌜ (j < length (now re)) × (j < length (now im)) ⌝ }
-    ensures { λ _. ⌜ stateOf (now (re .exit)) (now (im .exit)) ≡ setPoint j (complexOf a) (stateOf (now (re .entry)) (now (im .entry))) ⌝ }
-{
-    re[j] = a.re;
-    im[j] = a.im;
 }
 
 // The first 2^nqubits amplitudes copied from the scratch.
@@ -79,17 +66,13 @@ pub(crate) fn copy_back(
     scratch_im: &[f64],
     nqubits: usize,
 )
-    requires { ⌜ (nqubits ≤ 60) × (2 ^ nqubits ≤ length (now re)) × (2 ^ nqubits ≤ length (now im)) × (2 ^ nqubits ≤ length (now «scratch_re»)) × (2 ^ nqubits ≤ length (now «scratch_im»)) ⌝ }
+    requires { ⌜ (nqubits ≤ 60) × Holding nqubits (stateOf (now re) (now im)) × Holding nqubits (stateOf (now «scratch_re») (now «scratch_im»)) ⌝ }
     ensures { λ _. ⌜ stateOf (now (re .exit)) (now (im .exit)) ≡ written nqubits (point (stateOf (now («scratch_re» .entry)) (now («scratch_im» .entry)))) (stateOf (now (re .entry)) (now (im .entry))) ⌝ }
 {
     let dim = 1usize << nqubits;
     let mut j = 0;
     while j < dim {
-        let a = Complex64 {
-            re: scratch_re[j],
-            im: scratch_im[j],
-        };
-        store(re, im, j, a);
+        amplitude::write(re, im, j, amplitude::read(scratch_re, scratch_im, j));
         j += 1;
     }
 }

@@ -1,19 +1,16 @@
 // The squared length of what a branch leaves, and its clamp.
+use crate::amplitude;
 use complex::Complex64;
 use kernels::PrecomputedActivePauliMeasurementKernel;
 ghost use mathlib.Core.Path.{_≡_};
-ghost use mathlib.Core.Bool.{true, false};
-ghost use Prim.Native.Nat.{_-_, _≤_, _<_, _^_};
-ghost use lib.ListN.{length};
+ghost use Prim.Native.Nat.{_-_, _<_, _^_};
 ghost use Rattle.bitlaws.specs.Digit.{bitOf};
-ghost use Rattle.amplitudelaws.specs.Arithmetic.{scaled};
-ghost use Rattle.amplitudelaws.specs.Binary.{binary};
-ghost use Rattle.amplitudelaws.specs.State.{stateOf, point, setPoint, written};
-ghost use Rattle.complex.specs.Complex.{complexOf};
-ghost use Rattle.kernels.specs.Kernel.{measurementMeant};
-ghost use Rattle.measurement.specs.Measured.{kernelRemaining, Measurable};
 ghost use Rattle.amplitudelaws.specs.Binary as float;
 ghost use Rattle.amplitudelaws.specs.Probability as sums;
+ghost use Rattle.amplitudelaws.specs.State.{stateOf, point};
+ghost use Rattle.complex.specs.Complex.{complexOf};
+ghost use Rattle.kernels.specs.Kernel.{measurementMeant};
+ghost use Rattle.measurement.specs.Measured.{kernelRemaining, kernelMass, Measurable, Holding};
 
 // From 0, output index rising.
 pub(crate) fn mass(
@@ -22,8 +19,8 @@ pub(crate) fn mass(
     kernel: PrecomputedActivePauliMeasurementKernel,
     branch: bool,
 ) -> f64
-    requires { ⌜ Measurable (measurementMeant kernel) × (2 ^ (kernel .action .nqubits) ≤ length (now re)) × (2 ^ (kernel .action .nqubits) ≤ length (now im)) ⌝ }
-    ensures { λ r. ⌜ r ≡ sums.total binary (2 ^ (kernel .action .nqubits - 1)) (λ j. sums.squared binary (kernelRemaining (measurementMeant kernel) (bitOf branch) (point (stateOf (now (re .entry)) (now (im .entry)))) j)) ⌝ }
+    requires { ⌜ Measurable (measurementMeant kernel) × Holding (kernel .action .nqubits) (stateOf (now re) (now im)) ⌝ }
+    ensures { λ r. ⌜ r ≡ kernelMass (measurementMeant kernel) (bitOf branch) (2 ^ (kernel .action .nqubits - 1)) (stateOf (now (re .entry)) (now (im .entry))) ⌝ }
 {
     let mut sum = 0.0;
     let mut j = 0;
@@ -42,22 +39,22 @@ fn remaining(
     branch: bool,
     j: usize,
 ) -> Complex64
-    requires { ⌜ Measurable (measurementMeant kernel) × (j < 2 ^ (kernel .action .nqubits - 1)) × (2 ^ (kernel .action .nqubits) ≤ length (now re)) × (2 ^ (kernel .action .nqubits) ≤ length (now im)) ⌝ }
+    requires { ⌜ Measurable (measurementMeant kernel) × (j < 2 ^ (kernel .action .nqubits - 1)) × Holding (kernel .action .nqubits) (stateOf (now re) (now im)) ⌝ }
     ensures { λ r. ⌜ complexOf r ≡ kernelRemaining (measurementMeant kernel) (bitOf branch) (point (stateOf (now (re .entry)) (now (im .entry)))) j ⌝ }
 {
     if !kernel.is_diagonal {
         return crate::mixing::mixture(re, im, kernel, branch, j);
     }
     let odd = kernel.diagonal_phase_bit ^ branch;
-    let from = crate::diagonal::source(j, kernel.pivot, kernel.action.zmask, odd);
-    Complex64 {
-        re: re[from],
-        im: im[from],
-    }
+    amplitude::read(
+        re,
+        im,
+        crate::diagonal::source(j, kernel.pivot, kernel.action.zmask, odd),
+    )
 }
 
 fn squared(a: Complex64) -> f64
-    ensures { λ r. ⌜ r ≡ sums.squared binary (complexOf a) ⌝ }
+    ensures { λ r. ⌜ r ≡ sums.squared float.binary (complexOf a) ⌝ }
 {
     a.re * a.re + a.im * a.im
 }

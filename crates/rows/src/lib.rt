@@ -4,10 +4,9 @@
 use activepauli::ActivePauli;
 ghost use mathlib.Core.Path.{_≡_};
 ghost use Prim.Native.Nat.{_^_};
-ghost use lib.Dec.{leb, eqb};
+ghost use lib.Dec.{leb};
 ghost use lib.Ieee.Scale.{finite};
 ghost use Rattle.answers.specs.Row as table;
-ghost use Rattle.bitlaws.specs.Digit.{digit};
 ghost use Rattle.activepauli.specs.Active.{activeOf};
 ghost use Rattle.amplitudelaws.specs.Binary.{inUnit};
 ghost use Rattle.amplitudelaws.specs.Rows.{widthRow, hermitianRow, unitRow, rotationKernelRow, pivotMask, pivotRow, measurementRow, roomRow};
@@ -112,7 +111,7 @@ pub fn pivot_row(pauli: ActivePauli, pivot: usize) -> u8
     if mask == 0 {
         return 11;
     }
-    row(!bit_is_set(mask, pivot), 12)
+    row(!bits::word_bit(mask, pivot), 12)
 }
 
 // 3 and 6 to 12, of a measurement: 8 where `unfit` says so.
@@ -123,14 +122,4 @@ pub fn measurement_row(pauli: ActivePauli, pivot: usize, unfit: bool) -> u8
         hermitian_row(pauli, 61),
         first(row(unfit, 8), pivot_row(pauli, pivot)),
     )
-}
-
-// None is set from bit 64 on.
-fn bit_is_set(word: u64, bit: usize) -> bool
-    ensures { λ r. ⌜ r ≡ eqb (digit bit word) 1 ⌝ }
-{
-    if 64 <= bit {
-        return false;
-    }
-    (word >> bit) % 2 == 1
 }

@@ -27,8 +27,8 @@ returns-3 c =
     let inside = lt-leb (a .pauli .nqubits) (a .pivot) (c .before .if2 .left) in
     rw (ne-eqb (a .pauli .nqubits) 0 (c .before .before .before .if1 .left), inside, ← s .pivot-mask .ensures, eq-eqb (s .pivot-mask .result) 0 (c .if3 .taken))
 
-bit-is-set-requires : tie.Need-bit-is-set-requires
-bit-is-set-requires c κs = search needs
+word-bit-requires : tie.Need-word-bit-requires
+word-bit-requires c κs = search needs
 
 row-requires : tie.Need-row-requires
 row-requires c κs = search needs
@@ -40,7 +40,7 @@ returns-4 c =
     let a = s .before .args in
     let inside = lt-leb (a .pauli .nqubits) (a .pivot) (c .before .before .before .if2 .left) in
     let some-mask = ne-eqb (s .pivot-mask .result) 0 (c .before .before .if3 .left) in
-    rw (ne-eqb (a .pauli .nqubits) 0 (c .before .before .before .before .before .if1 .left), inside, ← s .pivot-mask .ensures, some-mask, ← c .before .bit-is-set .ensures)
+    rw (ne-eqb (a .pauli .nqubits) 0 (c .before .before .before .before .before .if1 .left), inside, ← s .pivot-mask .ensures, some-mask, ← c .before .word-bit .ensures)
     (c .row .ensures)
 
 pub pivot-row-spec : {M : Type 1} → statement M
@@ -51,6 +51,6 @@ pivot-row-spec =
     returns
     returns-2
     returns-3
-    bit-is-set-requires
+    word-bit-requires
     row-requires
     returns-4)

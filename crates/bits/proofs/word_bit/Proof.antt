@@ -3,8 +3,8 @@ use Prim.Native.Nat.{ℕ}
 use lib.Dec.{eqb}
 use Rattle.bitlaws.specs.Digit.{digit, digit-above}
 use borrow.Author.Needs.{needs}
-use Rattle.activepauli.proofs.word_bit.Statement.{statement}
-use Rattle.activepauli.proofs.word_bit.Tie as tie
+use Rattle.bits.proofs.word_bit.Statement.{statement}
+use Rattle.bits.proofs.word_bit.Tie as tie
 
 returns : tie.Need-returns
 returns c =

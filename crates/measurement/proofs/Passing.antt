@@ -1,0 +1,123 @@
+-- What the rows of a call let pass, and what a Pauli's kernel leaves in the definitions that the calls cite.
+use mathlib.Core.Path.{_≡_, refl, sym, ap, _∙_, subst}
+use mathlib.Core.Bool.{Bool, true, false, cond, not, _&&_, _||_}
+use Prim.Native.Nat.{ℕ, _-_, _^_, _<_}
+use native.Mathlib.Omega.{arith}
+use lib.Dec.{leb, eqb, lit<}
+use lib.Ieee.{Float}
+use lib.Ieee.Scale.{finite}
+use lib.ListN.{length}
+use borrow.Author.Tests.{leb-true, not-false}
+use Rattle.answers.specs.Answer.Answer.{refused}
+use Rattle.answers.specs.Row.{row, row-passed, first-some, first-none, first-passed, answered, answered-some, refused-row}
+use Rattle.paulilaws.specs.Pauli.{Pauli}
+use Rattle.paulilaws.specs.Fitting.{both-left, both-right}
+use Rattle.amplitudelaws.specs.Binary.{binary, clamped}
+use Rattle.amplitudelaws.specs.Passed.{measurement-passed}
+use Rattle.amplitudelaws.specs.Probability.{mass}
+use Rattle.amplitudelaws.specs.Projection.{minus, projected, remaining}
+use Rattle.amplitudelaws.specs.Rows.{pivotMask, measurementRow, roomRow, projectionRow, probabilityRow}
+use Rattle.amplitudelaws.specs.State.{State, point, room, written}
+use Rattle.amplitudelaws.specs.Steps.{projection, scratchAfter, scratchBy, probability}
+use Rattle.kernels.specs.Kernel.{MeasurementKernel, measurementOf, actionOf}
+use Rattle.measurement.specs.Measured.{kernelRemaining, kernelProjected, kernelScratch, kernelMass, Measurable, Holding}
+
+either-other : (t u : Bool) → (t || u) ≡ true → t ≡ false → u ≡ true
+either-other true u e f = absurd (let z : _≡_ {A = ℕ} 0 1 = cc in omega arith)
+either-other false u e f = e
+
+pub room-holding : (n : ℕ) (S : State) → room n S ≡ true → Holding n S
+unfolding room
+room-holding n S e =
+    let re = leb (2 ^ n) (length (S .re)) in
+    let im = leb (2 ^ n) (length (S .im)) in
+    record { re = leb-true (2 ^ n) (length (S .re)) (both-left re im e); im = leb-true (2 ^ n) (length (S .im)) (both-right re im e) }
+
+module _ (M : Pauli) (p : ℕ) where
+  masked : M .x < 2 ^ M .n → M .z < 2 ^ M .n → pivotMask M < 2 ^ M .n
+  unfolding pivotMask
+  masked x z = go (eqb (M .x) 0)
+    where
+      go : (t : Bool) → cond t (M .z) (M .x) < 2 ^ M .n
+      go true = z
+      go false = x
+
+  -- the kernel of a Pauli that no row refuses
+  pub row-measurable : (unfit : Bool) → measurementRow M p unfit ≡ 0 → Measurable (measurementOf M p)
+  unfolding pivotMask measurementOf actionOf
+  row-measurable unfit e =
+      let passed = measurement-passed M p unfit e in
+      let pivot = passed .4 in
+      record {
+        narrow = passed .1;
+        outputs = refl;
+        pivoted = record { inside = pivot .inside; mask = masked (passed .0 .xs) (passed .0 .zs); has = pivot .set };
+      }
+
+  -- with 8 let pass the rows are those of the kernel alone
+  pub row-kernel : (unfit : Bool) → measurementRow M p unfit ≡ 0 → measurementRow M p false ≡ 0
+  row-kernel unfit e = subst (λ (t : Bool). measurementRow M p t ≡ 0) (measurement-passed M p unfit e .3) e
+
+  module _ (invnorm : Float) (S scratch : State) (e : projectionRow M p invnorm S scratch ≡ 0) where
+    split : (measurementRow M p (not (finite invnorm)) ≡ 0) × (roomRow (room (M .n) S && (eqb (M .x) 0 || room (M .n - 1) scratch)) ≡ 0)
+    unfolding projectionRow
+    split = first-passed (measurementRow M p (not (finite invnorm))) _ e
+
+    pub projection-measured : measurementRow M p (not (finite invnorm)) ≡ 0
+    projection-measured = split .0
+
+    rooms : (room (M .n) S ≡ true) × ((eqb (M .x) 0 || room (M .n - 1) scratch) ≡ true)
+    unfolding roomRow
+    rooms =
+        let state = room (M .n) S in
+        let other = eqb (M .x) 0 || room (M .n - 1) scratch in
+        let enough = not-false (state && other) (row-passed (not (state && other)) 13 0 (lit< tt) (split .1) .0) in
+        (both-left state other enough, both-right state other enough)
+
+    -- so no row refuses the kernel
+    pub projection-kernel : (n : ℕ) → refused n ≡ answered (measurementRow M p false) (measurementOf M p) → ⊥
+    projection-kernel n q =
+        let same = refused-row (measurementRow M p false) (measurementOf M p) n q in
+        omega (arith, same, row-kernel (not (finite invnorm)) projection-measured)
+
+    pub projection-holding : Holding (M .n) S
+    projection-holding = room-holding (M .n) S (rooms .0)
+
+    pub scratch-holding : eqb (M .x) 0 ≡ false → Holding (M .n - 1) scratch
+    scratch-holding mixing = room-holding (M .n - 1) scratch (either-other (eqb (M .x) 0) (room (M .n - 1) scratch) (rooms .1) mixing)
+
+  module _ (S : State) where
+    pub probability-refused : (a : Float) (n : ℕ) → refused n ≡ answered (measurementRow M p false) (measurementOf M p) → refused n ≡ answered (probabilityRow M p S) a
+    unfolding probabilityRow
+    probability-refused a n q =
+        let same = refused-row (measurementRow M p false) (measurementOf M p) n q in
+        rw (same .0, first-some n (roomRow (room (M .n) S)) (same .1)) (sym (answered-some n a (same .1)))
+
+    module _ (e : measurementRow M p false ≡ 0) where
+      pub probability-roomless : room (M .n) S ≡ false → probabilityRow M p S ≡ 13
+      unfolding probabilityRow roomRow row
+      probability-roomless r = rw (first-none (measurementRow M p false) _ e, r)
+
+      pub probability-passed : room (M .n) S ≡ true → probabilityRow M p S ≡ 0
+      unfolding probabilityRow roomRow row
+      probability-passed r = rw (first-none (measurementRow M p false) _ e, r)
+
+  -- ---- what its kernel leaves
+
+  module _ (K : MeasurementKernel) (e : K ≡ measurementOf M p) (v : ℕ) (S : State) where
+    pub kernel-probability : clamped (kernelMass K v (2 ^ (K .action .n - 1)) S) ≡ probability M p v S
+    unfolding measurementOf actionOf kernelMass kernelRemaining probability mass remaining minus
+    kernel-probability = ap (λ (k : MeasurementKernel). clamped (kernelMass k v (2 ^ (k .action .n - 1)) S)) e
+
+    module _ (invnorm : Float) where
+      pub kernel-projection : written (K .action .n - 1) (kernelProjected K v invnorm S) S ≡ projection M p v invnorm S
+      unfolding measurementOf actionOf kernelProjected kernelRemaining projection projected remaining minus
+      kernel-projection = ap (λ (k : MeasurementKernel). written (k .action .n - 1) (kernelProjected k v invnorm S) S) e
+
+      pub kernel-scratch : (scratch : State) → kernelScratch K v invnorm S scratch ≡ scratchAfter M p v invnorm S scratch
+      unfolding measurementOf actionOf kernelScratch kernelProjected kernelRemaining scratchAfter scratchBy projected remaining minus
+      kernel-scratch scratch = ap (λ (k : MeasurementKernel). kernelScratch k v invnorm S scratch) e ∙ go (eqb (M .x) 0)
+        where
+          go : (t : Bool) → cond t scratch (written (M .n - 1) (projected binary M p v invnorm (point S)) scratch) ≡ scratchBy t M p v invnorm S scratch
+          go true = refl
+          go false = refl

@@ -1,0 +1,25 @@
+// One amplitude of the two buffers.
+use complex::Complex64;
+ghost use mathlib.Core.Path.{_≡_};
+ghost use Prim.Native.Nat.{_<_};
+ghost use lib.ListN.{length};
+ghost use Rattle.amplitudelaws.specs.State.{stateOf, point, setPoint};
+ghost use Rattle.complex.specs.Complex.{complexOf};
+
+pub(crate) fn read(re: &[f64], im: &[f64], b: usize) -> Complex64
+    requires { ⌜ (b < length (now re)) × (b < length (now im)) ⌝ }
+    ensures { λ r. ⌜ complexOf r ≡ point (stateOf (now (re .entry)) (now (im .entry))) b ⌝ }
+{
+    Complex64 {
+        re: re[b],
+        im: im[b],
+    }
+}
+
+pub(crate) fn write(re: &mut [f64], im: &mut [f64], b: usize, a: Complex64)
+    requires { ⌜ (b < length (now re)) × (b < length (now im)) ⌝ }
+    ensures { λ _. ⌜ stateOf (now (re .exit)) (now (im .exit)) ≡ setPoint b (complexOf a) (stateOf (now (re .entry)) (now (im .entry))) ⌝ }
+{
+    re[b] = a.re;
+    im[b] = a.im;
+}

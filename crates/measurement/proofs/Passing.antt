@@ -1,7 +1,7 @@
 -- What the rows of a call let pass, and what a Pauli's kernel leaves in the definitions that the calls cite.
 use mathlib.Core.Path.{_≡_, refl, sym, ap, _∙_, subst}
 use mathlib.Core.Bool.{Bool, true, false, cond, not, _&&_, _||_}
-use Prim.Native.Nat.{ℕ, _-_, _^_, _<_}
+use Prim.Native.Nat.{ℕ, _-_, _^_}
 use native.Mathlib.Omega.{arith}
 use lib.Dec.{leb, eqb, lit<}
 use lib.Ieee.{Float}
@@ -34,29 +34,16 @@ room-holding n S e =
     record { re = leb-true (2 ^ n) (length (S .re)) (both-left re im e); im = leb-true (2 ^ n) (length (S .im)) (both-right re im e) }
 
 module _ (M : Pauli) (p : ℕ) where
-  masked : M .x < 2 ^ M .n → M .z < 2 ^ M .n → pivotMask M < 2 ^ M .n
-  unfolding pivotMask
-  masked x z = go (eqb (M .x) 0)
-    where
-      go : (t : Bool) → cond t (M .z) (M .x) < 2 ^ M .n
-      go true = z
-      go false = x
-
   -- the kernel of a Pauli that no row refuses
   pub row-measurable : (unfit : Bool) → measurementRow M p unfit ≡ 0 → Measurable (measurementOf M p)
   unfolding pivotMask measurementOf actionOf
   row-measurable unfit e =
       let passed = measurement-passed M p unfit e in
-      let pivot = passed .4 in
-      record {
-        narrow = passed .1;
-        outputs = refl;
-        pivoted = record { inside = pivot .inside; mask = masked (passed .0 .xs) (passed .0 .zs); has = pivot .set };
-      }
+      record { narrow = passed .0; outputs = refl; pivoted = passed .2 }
 
   -- with 8 let pass the rows are those of the kernel alone
   pub row-kernel : (unfit : Bool) → measurementRow M p unfit ≡ 0 → measurementRow M p false ≡ 0
-  row-kernel unfit e = subst (λ (t : Bool). measurementRow M p t ≡ 0) (measurement-passed M p unfit e .3) e
+  row-kernel unfit e = subst (λ (t : Bool). measurementRow M p t ≡ 0) (measurement-passed M p unfit e .1) e
 
   module _ (invnorm : Float) (S scratch : State) (e : projectionRow M p invnorm S scratch ≡ 0) where
     split : (measurementRow M p (not (finite invnorm)) ≡ 0) × (roomRow (room (M .n) S && (eqb (M .x) 0 || room (M .n - 1) scratch)) ≡ 0)

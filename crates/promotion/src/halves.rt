@@ -25,24 +25,27 @@ fn promote_at(re: &mut [f64], im: &mut [f64], low: usize, high: usize, c: f64, q
     requires { ⌜ (low < length (now re)) × (low < length (now im)) × (high < length (now re)) × (high < length (now im)) ⌝ }
     ensures { λ _. ⌜ stateOf (now (re .exit)) (now (im .exit)) ≡ setPoint high (raised binary q (point (stateOf (now (re .entry)) (now (im .entry))) low)) (setPoint low (scale binary c (point (stateOf (now (re .entry)) (now (im .entry))) low)) (stateOf (now (re .entry)) (now (im .entry)))) ⌝ }
 {
+    let r = re[low];
+    let i = im[low];
     let p = Complex64 {
-        re: re[low],
-        im: im[low],
+        re: r,
+        im: i,
     };
     let a = complex::scale(c, p);
-    let b = times_i(q, p);
+    let minus = -q;
+    let b = times_i(minus, q, p);
     re[low] = a.re;
     im[low] = a.im;
     re[high] = b.re;
     im[high] = b.im;
 }
 
-// i q times the amplitude.
-fn times_i(q: f64, p: Complex64) -> Complex64
-    ensures { λ r. ⌜ complexOf r ≡ raised binary q (complexOf p) ⌝ }
+// i q times the amplitude, `minus` being -q.
+fn times_i(minus: f64, q: f64, p: Complex64) -> Complex64
+    ensures { λ r. ⌜ complexOf r ≡ record { re = binary .mul minus (p .im); im = binary .mul q (p .re) } ⌝ }
 {
     Complex64 {
-        re: -q * p.im,
+        re: minus * p.im,
         im: q * p.re,
     }
 }

@@ -21,7 +21,7 @@ measurement-kernel-requires : tie.Need-measurement-kernel-requires
 measurement-kernel-requires c κs =
     let a = c .before .before .args in
     let passed = measurement-passed (activeOf (a .pauli)) (a .pivot) false (sym (c .before .measurement-row .ensures) ∙ c .if1 .left) in
-    (omega (arith, passed .4 .inside), omega (arith, passed .1))
+    (omega (arith, passed .2 .inside), omega (arith, passed .0))
 
 returns-2 : tie.Need-returns-2
 returns-2 c = ap accepted (c .measurement-kernel .ensures) ∙ sym (answered-none _ _ (sym (c .before .before .measurement-row .ensures) ∙ c .before .if1 .left))

@@ -1,21 +1,22 @@
 use mathlib.Core.Path.{ap₂}
 use Rattle.amplitudelaws.specs.Binary.{Point}
+use Rattle.amplitudelaws.specs.Promotion.{raised}
 use Rattle.amplitudelaws.specs.State.{stateOf, point, setPoint}
 use borrow.Author.Needs.{needs}
 use Rattle.promotion.proofs.halves.promote_at.Statement.{statement}
 use Rattle.promotion.proofs.halves.promote_at.Tie as tie
 
-mul-t10 : tie.Need-mul-t10
-mul-t10 c = search needs
+mul-r : tie.Need-mul-r
+mul-r c = search needs
 
-slice-read-t12 : tie.Need-slice-read-t12
-slice-read-t12 c = search needs
+slice-read-r : tie.Need-slice-read-r
+slice-read-r c = search needs
 
-mul-t13 : tie.Need-mul-t13
-mul-t13 c = search needs
+mul-i : tie.Need-mul-i
+mul-i c = search needs
 
-slice-read-t15 : tie.Need-slice-read-t15
-slice-read-t15 c = search needs
+slice-read-i : tie.Need-slice-read-i
+slice-read-i c = search needs
 
 scale-requires : tie.Need-scale-requires
 scale-requires c κs = search needs
@@ -54,7 +55,7 @@ same-length-2 : tie.Need-same-length-2
 same-length-2 c = search needs
 
 returns : tie.Need-returns
-unfolding point setPoint
+unfolding point setPoint raised
 returns c =
     let a = c .before .before .before .before .before .before .args in
     ap₂ (λ (u v : Point). setPoint (a .high) v (setPoint (a .low) u (stateOf (a .re .now) (a .im .now)))) (c .before .scale .ensures) (c .times-i .ensures)
@@ -63,10 +64,10 @@ pub promote-at-spec : {M : Type 1} → statement M
 promote-at-spec =
     tie.close
     (tie.spec
-    mul-t10
-    slice-read-t12
-    mul-t13
-    slice-read-t15
+    mul-r
+    slice-read-r
+    mul-i
+    slice-read-i
     scale-requires
     times-i-requires
     mul-re

@@ -43,10 +43,10 @@ module _ {K : MeasurementKernel} (m : Measurable K) where
     pub output-low : j < 2 ^ 60
     output-low = omega (arith, pow-mono {i = K .action .n - 1} {j = 60} (omega (arith, m .narrow)))
 
-    pub source-inside : (e : ℕ) → source (K .pivot) (K .action .z) e j < 2 ^ (K .action .n)
-    source-inside e =
-        subst (λ (k : ℕ). source (K .pivot) (K .action .z) e j < 2 ^ k) (sym wide)
-        (source-lt (K .pivot) (K .action .z) e j (K .action .n - 1) (omega (arith, m .pivoted .inside)) h)
+    pub source-inside : (e from : ℕ) → from ≡ source (K .pivot) (K .action .z) e j → from < 2 ^ (K .action .n)
+    source-inside e from q =
+        subst (λ (k : ℕ). from < 2 ^ k) (sym wide)
+        (rw q (source-lt (K .pivot) (K .action .z) e j (K .action .n - 1) (omega (arith, m .pivoted .inside)) h))
 
 module _ (K : MeasurementKernel) (v : Bool) (F : ℕ → Point) (j : ℕ) where
   -- one basis is read

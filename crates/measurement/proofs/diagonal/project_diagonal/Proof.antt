@@ -23,6 +23,10 @@ module _ (K : MeasurementKernel) (v : Bool) (invnorm : Float) (j from : ℕ) (di
   gathered S₀ S ahead =
       ap (λ (p : Point). scaled binary p invnorm) (ahead ∙ ap (point S₀) e ∙ sym (diagonal-left K v (point S₀) j diagonal))
 
+-- and it is not yet written
+not-behind : (p z e j from : ℕ) → from ≡ source p z e j → j ≤ from
+not-behind p z e j from q = omega (arith, source-ge p z e j)
+
 abbrev Inv-loop : tie.InvT-loop
 Inv-loop re₀ im₀ kernel branch invnorm odd j₀ re im j =
     let n = kernel .action .nqubits - 1 in
@@ -45,13 +49,11 @@ gather-requires : tie.Need-gather-requires Inv-loop μ-loop
 gather-requires c κs =
     let turn = c .before .before .before in
     let at-loop = turn .before .before in
-    let start = at-loop .before .before .before .before in
-    let K = measurementMeant (start .args .kernel) in
-    let pre = start .pre in
+    let pre = at-loop .before .before .before .before .pre in
     let m = pre .0 in
     let swept = at-loop .loop .inv .1 in
-    let inside = source-inside m (at-loop .loop .j) (omega (arith, m .outputs, turn .if1 .taken)) (bitOf (unlike (K .minus) (start .args .branch))) in
-    omega (arith, turn .if1 .taken, m .outputs, inside, c .before .before .source .ensures, swept .re .room, swept .im .room, swept .re .len, swept .im .len, pre .2 .re, pre .2 .im)
+    let inside = source-inside m (at-loop .loop .j) (omega (arith, m .outputs, turn .if1 .taken)) _ _ (c .before .before .source .ensures) in
+    omega (arith, turn .if1 .taken, m .outputs, inside, swept .re .room, swept .im .room, swept .re .len, swept .im .len, pre .2 .re, pre .2 .im)
 
 add-j : tie.Need-add-j Inv-loop μ-loop
 add-j c = omega arith
@@ -73,7 +75,7 @@ loop-again c =
     let from : ℕ = found .source .result in
     let K = measurementMeant (a .kernel) in
     let under : j < 2 ^ (a .kernel .action .nqubits - 1) = omega (arith, m .outputs, turn .if1 .taken) in
-    let ahead : j ≤ from = omega (arith, source-ge (K .pivot) (K .action .z) (bitOf (unlike (K .minus) (a .branch))) j, found .source .ensures) in (
+    let ahead = not-behind _ _ _ j from (found .source .ensures) in (
       omega arith,
       one-more swept _ _ (called .gather .ensures) under
           (gathered K (a .branch) (a .invnorm) j from (start .pre .1) (found .source .ensures) (stateOf (a .re .now) (a .im .now)) _ (one-ahead swept from ahead)),

@@ -1,9 +1,7 @@
 use mathlib.Core.Path.{sym, ap, _∙_}
 use native.Mathlib.Omega.{arith}
-use lib.Ieee.{unlike}
 use borrow.Author.Needs.{needs}
 use borrow.Author.Tests.{not-true, not-false}
-use Rattle.bitlaws.specs.Digit.{bitOf}
 use Rattle.amplitudelaws.specs.State.{stateOf, point}
 use Rattle.kernels.specs.Kernel.{measurementMeant}
 use Rattle.measurement.proofs.Leaving.{pivot-low, output-low, source-inside, diagonal-left}
@@ -26,9 +24,8 @@ source-requires c κs =
 read-requires : tie.Need-read-requires
 read-requires c κs =
     let start = c .before .before .before .before .before .before in
-    let K = measurementMeant (start .args .kernel) in
-    let inside = source-inside (start .pre .0) (start .args .j) (start .pre .1) (bitOf (unlike (K .minus) (start .args .branch))) in
-    omega (arith, inside, c .source .ensures, start .pre .2 .re, start .pre .2 .im)
+    let inside = source-inside (start .pre .0) (start .args .j) (start .pre .1) _ _ (c .source .ensures) in
+    omega (arith, inside, start .pre .2 .re, start .pre .2 .im)
 
 returns-2 : tie.Need-returns-2
 returns-2 c =

@@ -27,10 +27,7 @@ fn promote_at(re: &mut [f64], im: &mut [f64], low: usize, high: usize, c: f64, q
 {
     let r = re[low];
     let i = im[low];
-    let p = Complex64 {
-        re: r,
-        im: i,
-    };
+    let p = Complex64 { re: r, im: i };
     let a = complex::scale(c, p);
     let minus = -q;
     let b = times_i(minus, q, p);

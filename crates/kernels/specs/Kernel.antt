@@ -90,7 +90,7 @@ measurementOf M p = record {
   action = actionOf M;
   pivot = p;
   diagonal = eqb (M .x) 0;
-  minus = eqb (M .k) 2;
+  minus = eqb (M .x) 0 && eqb (M .k) 2;
   outputs = 2 ^ (M .n - 1);
   coefficient = projectionCoefficient binary (M .k);
 }

@@ -53,7 +53,7 @@ pub enum RotationKernelAnswer {
 
 // Everything the probability of a branch of P and the projection on it need. `pivot` names the qubit
 // that the measurement consumes: output index j is the input index with bit `pivot` deleted.
-// `diagonal_phase_bit` is set where i^phase is -1; `nondiagonal_coefficient1_even` is w at even parity
+// `diagonal_phase_bit` is set where x is 0 and i^phase is -1; `nondiagonal_coefficient1_even` is w at even parity
 // and branch 0, the conjugate of i^phase times 1/sqrt 2.
 pub struct PrecomputedActivePauliMeasurementKernel {
     pub action: ActivePauliAction,
@@ -174,6 +174,7 @@ fn measurement_kernel(pauli: ActivePauli, pivot: usize) -> PrecomputedActivePaul
     ensures { λ r. ⌜ measurementMeant r ≡ measurementOf (activeOf pauli) pivot ⌝ }
 {
     let action = action(pauli);
+    let is_diagonal = pauli.x == 0;
     let even = action.even_phase;
     let conjugate = complex::conjugate(even);
     let h = f64::from_bits(0x3FE6A09E667F3BCD);
@@ -181,8 +182,8 @@ fn measurement_kernel(pauli: ActivePauli, pivot: usize) -> PrecomputedActivePaul
     PrecomputedActivePauliMeasurementKernel {
         action,
         pivot,
-        is_diagonal: pauli.x == 0,
-        diagonal_phase_bit: pauli.phase == 2,
+        is_diagonal,
+        diagonal_phase_bit: is_diagonal & (pauli.phase == 2),
         out_dim,
         nondiagonal_coefficient1_even: complex::scaled(conjugate, h),
     }

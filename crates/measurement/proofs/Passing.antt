@@ -12,10 +12,12 @@ use Rattle.answers.specs.Answer.Answer.{refused}
 use Rattle.answers.specs.Row.{row, row-passed, first-some, first-none, first-passed, answered, answered-some, refused-row}
 use Rattle.paulilaws.specs.Pauli.{Pauli}
 use Rattle.paulilaws.specs.Fitting.{both-left, both-right}
-use Rattle.amplitudelaws.specs.Binary.{binary, clamped}
+use Rattle.bitlaws.specs.Digit.{bitOf}
+use Rattle.amplitudelaws.specs.Arithmetic.{scaled}
+use Rattle.amplitudelaws.specs.Binary.{binary, Point, clamped}
 use Rattle.amplitudelaws.specs.Passed.{measurement-passed}
-use Rattle.amplitudelaws.specs.Probability.{mass}
-use Rattle.amplitudelaws.specs.Projection.{minus, projected, remaining}
+use Rattle.amplitudelaws.specs.Probability.{mass, squared, total}
+use Rattle.amplitudelaws.specs.Projection.{minus, projected, projectionCoefficient, remaining, remainingBy}
 use Rattle.amplitudelaws.specs.Rows.{pivotMask, measurementRow, roomRow, projectionRow, probabilityRow}
 use Rattle.amplitudelaws.specs.State.{State, point, room, written}
 use Rattle.amplitudelaws.specs.Steps.{projection, scratchAfter, scratchBy, probability}
@@ -91,19 +93,40 @@ module _ (M : Pauli) (p : ℕ) where
 
   -- ---- what its kernel leaves
 
+  -- with an X part the kernel's phase bit is not set, and not looked at
+  leaves : kernelRemaining (measurementOf M p) ≡ remaining binary M p
+  unfolding measurementOf actionOf kernelRemaining remaining remainingBy minus
+  leaves = go (eqb (M .x) 0)
+    where
+      go : (t : Bool) → remainingBy binary t (M .x) (M .z) (bitOf (t && eqb (M .k) 2)) (projectionCoefficient binary (M .k)) p
+          ≡ remainingBy binary t (M .x) (M .z) (minus (M .k)) (projectionCoefficient binary (M .k)) p
+      go true = refl
+      go false = refl
+
   module _ (K : MeasurementKernel) (e : K ≡ measurementOf M p) (v : ℕ) (S : State) where
     pub kernel-probability : clamped (kernelMass K v (2 ^ (K .action .n - 1)) S) ≡ probability M p v S
-    unfolding measurementOf actionOf kernelMass kernelRemaining probability mass remaining minus
-    kernel-probability = ap (λ (k : MeasurementKernel). clamped (kernelMass k v (2 ^ (k .action .n - 1)) S)) e
+    unfolding measurementOf actionOf kernelMass probability mass
+    kernel-probability =
+        ap (λ (k : MeasurementKernel). clamped (kernelMass k v (2 ^ (k .action .n - 1)) S)) e
+        ∙ ap (λ (R : ℕ → (ℕ → Point) → ℕ → Point). clamped (total binary (2 ^ (M .n - 1)) (λ j. squared binary (R v (point S) j)))) leaves
 
     module _ (invnorm : Float) where
+      projects : kernelProjected (measurementOf M p) v invnorm S ≡ projected binary M p v invnorm (point S)
+      unfolding kernelProjected projected
+      projects = ap {B = ℕ → Point} (λ (R : ℕ → (ℕ → Point) → ℕ → Point). λ (j : ℕ). scaled binary (R v (point S) j) invnorm) leaves
+
       pub kernel-projection : written (K .action .n - 1) (kernelProjected K v invnorm S) S ≡ projection M p v invnorm S
-      unfolding measurementOf actionOf kernelProjected kernelRemaining projection projected remaining minus
-      kernel-projection = ap (λ (k : MeasurementKernel). written (k .action .n - 1) (kernelProjected k v invnorm S) S) e
+      unfolding measurementOf actionOf projection
+      kernel-projection =
+          ap (λ (k : MeasurementKernel). written (k .action .n - 1) (kernelProjected k v invnorm S) S) e
+          ∙ ap (λ (F : ℕ → Point). written (M .n - 1) F S) projects
 
       pub kernel-scratch : (scratch : State) → kernelScratch K v invnorm S scratch ≡ scratchAfter M p v invnorm S scratch
-      unfolding measurementOf actionOf kernelScratch kernelProjected kernelRemaining scratchAfter scratchBy projected remaining minus
-      kernel-scratch scratch = ap (λ (k : MeasurementKernel). kernelScratch k v invnorm S scratch) e ∙ go (eqb (M .x) 0)
+      unfolding measurementOf actionOf kernelScratch scratchAfter scratchBy
+      kernel-scratch scratch =
+          ap (λ (k : MeasurementKernel). kernelScratch k v invnorm S scratch) e
+          ∙ ap (λ (F : ℕ → Point). cond (eqb (M .x) 0) scratch (written (M .n - 1) F scratch)) projects
+          ∙ go (eqb (M .x) 0)
         where
           go : (t : Bool) → cond t scratch (written (M .n - 1) (projected binary M p v invnorm (point S)) scratch) ≡ scratchBy t M p v invnorm S scratch
           go true = refl

@@ -21,7 +21,7 @@ pub(crate) fn arity(call: u8, words: [u64; 20]) -> usize {
 }
 
 // What a byte adds to a word at a place, of which place 0 is the space; 16 where it may not stand there.
-fn digit(byte: u8, place: usize) -> u64 {
+pub fn digit(byte: u8, place: usize) -> u64 {
     if place == 0 {
         return if byte == b' ' { 0 } else { 16 };
     }
@@ -40,25 +40,26 @@ fn digit(byte: u8, place: usize) -> u64 {
     16
 }
 
-// Reads words that are zeros before, and answers how many there are: 99 where something else stands there.
-pub(crate) fn words(text: &[u8], words: &mut [u64; 20]) -> usize {
-    if 340 < text.len() {
-        return 99;
-    }
+// Reads words that are zeros before, and answers how many there are: usize::MAX where something else
+// stands there, or more words than were lent.
+pub fn words(text: &[u8], words: &mut [u64]) -> usize {
     let mut i = 0;
     while i < text.len() {
         let value = digit(text[i], i % 17);
         if 15 < value {
-            return 99;
+            return usize::MAX;
         }
         let k = i / 17;
+        if words.len() <= k {
+            return usize::MAX;
+        }
         words[k] = (words[k] << 4) | value;
         i += 1;
     }
-    if i % 17 == 0 { i / 17 } else { 99 }
+    if i % 17 == 0 { i / 17 } else { usize::MAX }
 }
 
-pub(crate) fn index(word: u64) -> usize {
+pub fn index(word: u64) -> usize {
     word as usize
 }
 
@@ -72,7 +73,7 @@ pub(crate) fn letter(code: u64) -> Pauli {
 }
 
 // A phase over 255 is taken for 255, which is refused too.
-fn phase(word: u64) -> u8 {
+pub fn phase(word: u64) -> u8 {
     if word < 256 { word as u8 } else { 255 }
 }
 

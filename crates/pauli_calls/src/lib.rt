@@ -1,8 +1,8 @@
 // Calls of bits, paulis, pauligroup and paulitext in text: each line asks one, and its whole answer is
 // written as a line. The operations are listed in form::arity; `p` reads a text, `#` is a comment.
 mod ask;
-mod form;
-mod show;
+pub mod form;
+pub mod show;
 
 use libc::STDOUT_FILENO;
 

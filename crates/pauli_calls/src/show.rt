@@ -5,19 +5,19 @@ use paulis::Outcome;
 use paulis::PauliAnswer;
 use paulis::PauliString;
 
-pub(crate) fn byte(b: u8) {
+pub fn byte(b: u8) {
     io::write_all(STDOUT_FILENO, &[b]);
 }
 
-pub(crate) fn unread() {
+pub fn unread() {
     io::write_all(STDOUT_FILENO, b"unread");
 }
 
-pub(crate) fn number(n: u64) {
+pub fn number(n: u64) {
     io::print_decimal(STDOUT_FILENO, n);
 }
 
-pub(crate) fn refused(n: u8) {
+pub fn refused(n: u8) {
     io::write_all(STDOUT_FILENO, b"refused ");
     number(n as u64);
 }

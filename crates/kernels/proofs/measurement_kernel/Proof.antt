@@ -31,10 +31,10 @@ scaled-requires c κs = search needs
 returns : tie.Need-returns
 unfolding measurementOf projectionCoefficient actionOf
 returns c =
-    let s = c .before .before .before .before in
-    let act = s .before .before .action .ensures in
+    let s = c .before .before .before in
+    let act = s .before .before .before .action .ensures in
     let even = ap (λ (A : Action). A .even) act in
-    rw (c .scaled .ensures, s .conjugate .ensures, act, even, one-shifted 64 (s .before .before .before .args .pauli .nqubits - 1) (omega arith))
+    rw (c .scaled .ensures, s .conjugate .ensures, act, even, one-shifted 64 (s .before .before .before .before .args .pauli .nqubits - 1) (omega arith))
 
 pub measurement-kernel-spec : {M : Type 1} → statement M
 measurement-kernel-spec =

@@ -33,12 +33,14 @@ mod active;
 mod bits;
 mod errors;
 mod pauli;
+mod shared;
 
 use active::insert_zero_bit;
 use pauli::{
     Pauli, PauliString, measurement_phase_sign, pauli_anticommutes, pauli_identity,
     pauli_squares_to_identity, pauli_string,
 };
+use shared::{Dice, Record};
 
 const WIDTHS: [usize; 16] = [
     0, 1, 2, 3, 5, 63, 64, 65, 127, 128, 129, 191, 192, 193, 255, 256,
@@ -74,23 +76,9 @@ fn bit(value: bool) -> String {
     u8::from(value).to_string()
 }
 
-/// The two files.
-#[derive(Default)]
-struct Record {
-    questions: String,
-    answers: String,
-}
-
-impl Record {
-    fn ask(&mut self, question: String, answer: String) {
-        self.questions += &(question + "\n");
-        self.answers += &(answer + "\n");
-    }
-
-    fn support(&mut self, p: &PauliString) {
-        let top = p.max_support().map_or("none".into(), |q| q.to_string());
-        self.ask(format!("t{}", words(p)), top);
-    }
+fn support(record: &mut Record, p: &PauliString) {
+    let top = p.max_support().map_or("none".into(), |q| q.to_string());
+    record.ask(format!("t{}", words(p)), top);
 }
 
 /// The index of the byte that an error of `pauli_string` is about. The Rust does
@@ -101,23 +89,6 @@ fn first_bad(text: &str) -> usize {
 }
 
 // ------------------------------------------------------------------- cases
-
-/// splitmix64.
-struct Dice(u64);
-
-impl Dice {
-    fn word(&mut self) -> u64 {
-        self.0 = self.0.wrapping_add(0x9e37_79b9_7f4a_7c15);
-        let mut z = self.0;
-        z = (z ^ (z >> 30)).wrapping_mul(0xbf58_476d_1ce4_e5b9);
-        z = (z ^ (z >> 27)).wrapping_mul(0x94d0_49bb_1331_11eb);
-        z ^ (z >> 31)
-    }
-
-    fn below(&mut self, n: usize) -> usize {
-        (self.word() % n as u64) as usize
-    }
-}
 
 /// The Pauli of width `n` with these letters and this stored phase.
 fn build(n: usize, phase: usize, mut letter: impl FnMut(usize) -> usize) -> PauliString {
@@ -288,7 +259,6 @@ fn texts(dice: &mut Dice) -> Vec<String> {
 }
 
 fn main() {
-    let folder = std::env::args().nth(1).expect("a folder");
     let dice = &mut Dice(20260816);
     let mut record = Record::default();
 
@@ -305,7 +275,7 @@ fn main() {
         let shown = format!("{} [{text:.<BUFFER$}]", text.len());
         record.ask(format!("h{asked}"), bit(pauli_squares_to_identity(&p)));
         record.ask(format!("s{asked}"), sign);
-        record.support(&p);
+        support(&mut record, &p);
         record.ask(format!("d{asked}{}", word(BUFFER as u64)), shown);
     }
 
@@ -316,7 +286,7 @@ fn main() {
             _ if at < q && i % 2 == 0 => dice.below(4),
             _ => 0,
         });
-        record.support(&p);
+        support(&mut record, &p);
     }
 
     // Letters asked for: at every place, and every letter at the places of 256.
@@ -377,7 +347,5 @@ fn main() {
         record.ask(format!("p {text}"), answer);
     }
 
-    for (name, text) in [("stdin", record.questions), ("stdout", record.answers)] {
-        std::fs::write(format!("{folder}/{name}"), text).unwrap();
-    }
+    record.write();
 }

@@ -1,0 +1,12 @@
+-- `kernel_calls::buffer` meets its contract, by a lemma: the search would count the zeros one by one. Assumes nothing.
+use Prim.Native.Nat.{ℕ}
+use mathlib.Core.Path.{sym}
+use lib.ListN.{length-replicate}
+use Rattle.kernel_calls.proofs.buffer.Statement.{statement}
+use Rattle.kernel_calls.proofs.buffer.Tie as tie
+
+returns : tie.Need-returns
+returns c = sym (length-replicate {A = ℕ} 786432 0)
+
+pub buffer-spec : {M : Type 1} → statement M
+buffer-spec = tie.close (tie.spec returns)

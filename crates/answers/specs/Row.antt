@@ -100,15 +100,16 @@ module _ {A : Type 0} where
 
 -- ---- a call that looks at its rows, is refused by the number r that they give, and else does its work
 
+-- a number that is not 0 refuses
+pub some-row : (n : ℕ) → (n ≡ 0 → ⊥) → 0 < n
+some-row zero h = absurd (h refl)
+some-row (suc n) h = zero-lt-suc n
+
 module _ {A B : Type 0} (R : ℕ) (a : A) (new old : B) where
   pub refusing : (r : ℕ) → r ≡ R → (r ≡ 0 → ⊥) → (refused r ≡ answered R a) × (old ≡ left R new old)
   refusing r e ne =
-      let some : 0 < R = above R (λ z. ne (e ∙ z)) in
+      let some : 0 < R = some-row R (λ z. ne (e ∙ z)) in
       (ap refused e ∙ sym (answered-some R a some), sym (left-some R new old some))
-    where
-      above : (n : ℕ) → (n ≡ 0 → ⊥) → 0 < n
-      above zero h = absurd (h refl)
-      above (suc n) h = zero-lt-suc n
 
   pub passing : (done : B) → R ≡ 0 → done ≡ new → (accepted a ≡ answered R a) × (done ≡ left R new old)
   passing done e is = (sym (answered-none R a e), is ∙ sym (left-none R new old e))

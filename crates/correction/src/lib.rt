@@ -5,12 +5,9 @@ mod moves;
 use activepauli::ActivePauli;
 use kernels::StepAnswer;
 ghost use mathlib.Core.Path.{_≡_};
-ghost use mathlib.Core.Bool.{_&&_};
-ghost use Prim.Native.Nat.{_^_};
-ghost use lib.Dec.{leb};
 ghost use Rattle.answers.specs.Row as table;
 ghost use Rattle.activepauli.specs.Active.{activeOf};
-ghost use Rattle.amplitudelaws.specs.Rows.{widestKernel, widthRow, roomRow, correctionRow};
+ghost use Rattle.amplitudelaws.specs.Rows.{correctionRow};
 ghost use Rattle.amplitudelaws.specs.State.{stateOf};
 ghost use Rattle.amplitudelaws.specs.Steps.{correction};
 ghost use Rattle.kernels.specs.Kernel.{stepTold, finished};
@@ -20,7 +17,7 @@ pub fn correct_contiguous_active(re: &mut [f64], im: &mut [f64], pauli: ActivePa
     ensures answer { λ r. ⌜ stepTold r ≡ table.answered (correctionRow (activeOf pauli) (stateOf (now (re .entry)) (now (im .entry)))) finished ⌝ }
     ensures state { λ _. ⌜ stateOf (now (re .exit)) (now (im .exit)) ≡ table.left (correctionRow (activeOf pauli) (stateOf (now (re .entry)) (now (im .entry)))) (correction (activeOf pauli) (stateOf (now (re .entry)) (now (im .entry)))) (stateOf (now (re .entry)) (now (im .entry))) ⌝ }
 {
-    let row = refusal(re.len(), im.len(), pauli);
+    let row = refusal(re, im, pauli);
     if row != 0 {
         return StepAnswer::Refused(row);
     }
@@ -28,10 +25,10 @@ pub fn correct_contiguous_active(re: &mut [f64], im: &mut [f64], pauli: ActivePa
     StepAnswer::Done
 }
 
-// The row that refuses, for buffers of these lengths; 0 where none does.
-fn refusal(re_len: usize, im_len: usize, pauli: ActivePauli) -> u8
-    ensures { λ r. ⌜ r ≡ table.first (widthRow widestKernel (activeOf pauli)) (roomRow (leb (2 ^ (pauli .nqubits)) «re_len» && leb (2 ^ (pauli .nqubits)) «im_len»)) ⌝ }
+// The row that refuses, 0 where none does.
+fn refusal(re: &[f64], im: &[f64], pauli: ActivePauli) -> u8
+    ensures { λ r. ⌜ r ≡ correctionRow (activeOf pauli) (stateOf (now (re .entry)) (now (im .entry))) ⌝ }
 {
-    let room = rows::has_room(pauli.nqubits, re_len) & rows::has_room(pauli.nqubits, im_len);
+    let room = rows::has_room(re, im, pauli.nqubits);
     rows::first(rows::width_row(pauli, 61), rows::room_row(room))
 }

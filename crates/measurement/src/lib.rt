@@ -17,7 +17,7 @@ ghost use Rattle.answers.specs.Row as table;
 ghost use Rattle.bitlaws.specs.Digit.{bitOf};
 ghost use Rattle.activepauli.specs.Active.{activeOf};
 ghost use Rattle.amplitudelaws.specs.Rows.{projectionRow, probabilityRow};
-ghost use Rattle.amplitudelaws.specs.State.{stateOf, room, written};
+ghost use Rattle.amplitudelaws.specs.State.{stateOf, written};
 ghost use Rattle.amplitudelaws.specs.Steps.{projection, scratchAfter, probability};
 ghost use Rattle.kernels.specs.Kernel.{measurementMeant, stepTold, finished};
 ghost use Rattle.measurement.specs.Measured.{probabilityTold, kernelProjected, kernelScratch, Measurable, Holding};
@@ -41,7 +41,7 @@ pub fn probability_contiguous(
     match PrecomputedActivePauliMeasurementKernel::with_pivot(pauli, pivot) {
         MeasurementKernelAnswer::Refused(row) => ProbabilityAnswer::Refused(row),
         MeasurementKernelAnswer::Kernel(kernel) => {
-            if !has_room(re, im, pauli.nqubits) {
+            if !rows::has_room(re, im, pauli.nqubits) {
                 return ProbabilityAnswer::Refused(13);
             }
             ProbabilityAnswer::Probability(norm::clamped(norm::mass(re, im, kernel, branch)))
@@ -93,18 +93,12 @@ fn projection_row(
     ensures { λ r. ⌜ r ≡ projectionRow (activeOf pauli) pivot invnorm (stateOf (now (re .entry)) (now (im .entry))) (stateOf (now («scratch_re» .entry)) (now («scratch_im» .entry))) ⌝ }
 {
     let left = below(pauli.nqubits);
-    let enough = has_room(re, im, pauli.nqubits)
-        & ((pauli.x == 0) | has_room(scratch_re, scratch_im, left));
+    let enough = rows::has_room(re, im, pauli.nqubits)
+        & ((pauli.x == 0) | rows::has_room(scratch_re, scratch_im, left));
     rows::first(
         rows::measurement_row(pauli, pivot, !rows::is_finite(invnorm)),
         rows::room_row(enough),
     )
-}
-
-fn has_room(re: &[f64], im: &[f64], nqubits: usize) -> bool
-    ensures { λ r. ⌜ r ≡ room nqubits (stateOf (now (re .entry)) (now (im .entry))) ⌝ }
-{
-    rows::has_room(nqubits, re.len()) & rows::has_room(nqubits, im.len())
 }
 
 fn below(nqubits: usize) -> usize

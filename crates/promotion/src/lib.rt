@@ -4,11 +4,8 @@ mod halves;
 
 use kernels::StepAnswer;
 ghost use mathlib.Core.Path.{_≡_};
-ghost use mathlib.Core.Bool.{_&&_};
-ghost use Prim.Native.Nat.{suc, _^_};
-ghost use lib.Dec.{leb};
 ghost use Rattle.answers.specs.Row as table;
-ghost use Rattle.amplitudelaws.specs.Rows.{promotedWidthRow, unitRow, roomRow, promotionRow};
+ghost use Rattle.amplitudelaws.specs.Rows.{promotionRow};
 ghost use Rattle.amplitudelaws.specs.State.{stateOf};
 ghost use Rattle.amplitudelaws.specs.Steps.{promotion};
 ghost use Rattle.kernels.specs.Kernel.{stepTold, finished};
@@ -25,7 +22,7 @@ pub fn promote_contiguous_active(
     ensures answer { λ r. ⌜ stepTold r ≡ table.answered (promotionRow nqubits c q (stateOf (now (re .entry)) (now (im .entry)))) finished ⌝ }
     ensures state { λ _. ⌜ stateOf (now (re .exit)) (now (im .exit)) ≡ table.left (promotionRow nqubits c q (stateOf (now (re .entry)) (now (im .entry)))) (promotion nqubits c q (stateOf (now (re .entry)) (now (im .entry)))) (stateOf (now (re .entry)) (now (im .entry))) ⌝ }
 {
-    let row = refusal(re.len(), im.len(), nqubits, c, q);
+    let row = refusal(re, im, nqubits, c, q);
     if row != 0 {
         return StepAnswer::Refused(row);
     }
@@ -33,14 +30,14 @@ pub fn promote_contiguous_active(
     StepAnswer::Done
 }
 
-// The row that refuses, for buffers of these lengths; 0 where none does.
-fn refusal(re_len: usize, im_len: usize, nqubits: usize, c: f64, q: f64) -> u8
-    ensures { λ r. ⌜ r ≡ table.first (promotedWidthRow nqubits) (table.first (unitRow c q) (roomRow (leb (2 ^ suc nqubits) «re_len» && leb (2 ^ suc nqubits) «im_len»))) ⌝ }
+// The row that refuses, 0 where none does.
+fn refusal(re: &[f64], im: &[f64], nqubits: usize, c: f64, q: f64) -> u8
+    ensures { λ r. ⌜ r ≡ promotionRow nqubits c q (stateOf (now (re .entry)) (now (im .entry))) ⌝ }
 {
     let too_wide = rows::first(rows::row(256 < nqubits, 3), rows::row(60 < nqubits, 6));
     if too_wide != 0 {
         return too_wide;
     }
-    let room = rows::has_room(nqubits + 1, re_len) & rows::has_room(nqubits + 1, im_len);
+    let room = rows::has_room(re, im, nqubits + 1);
     rows::first(rows::unit_row(c, q), rows::room_row(room))
 }

@@ -51,7 +51,7 @@ fn rotate_in_room(
     ensures state { λ _. ⌜ stateOf (now (re .exit)) (now (im .exit)) ≡ left (roomRow (room (kernel .action .nqubits) (stateOf (now (re .entry)) (now (im .entry))))) (byKernel (rotationMeant kernel) (bitOf sign) (stateOf (now (re .entry)) (now (im .entry)))) (stateOf (now (re .entry)) (now (im .entry))) ⌝ }
 {
     let nqubits = kernel.action.nqubits;
-    let row = rows::room_row(rows::has_room(nqubits, re.len()) & rows::has_room(nqubits, im.len()));
+    let row = rows::room_row(rows::has_room(re, im, nqubits));
     if row != 0 {
         return StepAnswer::Refused(row);
     }

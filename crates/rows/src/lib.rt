@@ -9,6 +9,7 @@ ghost use lib.Ieee.Scale.{finite};
 ghost use Rattle.answers.specs.Row as table;
 ghost use Rattle.activepauli.specs.Active.{activeOf};
 ghost use Rattle.amplitudelaws.specs.Binary.{inUnit};
+ghost use Rattle.amplitudelaws.specs.State.{stateOf, room};
 ghost use Rattle.amplitudelaws.specs.Rows.{widthRow, hermitianRow, unitRow, rotationKernelRow, pivotMask, pivotRow, measurementRow, roomRow};
 
 // One row.
@@ -40,8 +41,14 @@ pub fn is_finite(value: f64) -> bool
     (-infinity < value) & (value < infinity)
 }
 
-// Whether a buffer of this length has room for the amplitudes of this many qubits.
-pub fn has_room(nqubits: usize, length: usize) -> bool
+// Whether both lists have room for the amplitudes of this many qubits.
+pub fn has_room(re: &[f64], im: &[f64], nqubits: usize) -> bool
+    ensures { λ r. ⌜ r ≡ room nqubits (stateOf (now (re .entry)) (now (im .entry))) ⌝ }
+{
+    is_enough(re.len(), nqubits) & is_enough(im.len(), nqubits)
+}
+
+fn is_enough(length: usize, nqubits: usize) -> bool
     ensures { λ r. ⌜ r ≡ leb (2 ^ nqubits) length ⌝ }
 {
     if 64 <= nqubits {

@@ -14,18 +14,17 @@ refusal-requires : tie.Need-refusal-requires
 refusal-requires c κs = search needs
 
 returns : tie.Need-returns
-unfolding correctionRow room
 returns c =
-    let a = c .before .before .before .before .args in
+    let a = c .before .before .before .before .before .before .args in
     let P = activeOf (a .pauli) in
     let S = stateOf (a .re .now) (a .im .now) in
     refusing (correctionRow P S) finished (correction P S) S _ (c .before .refusal .ensures) (c .if1 .taken)
 
 correct-requires : tie.Need-correct-requires
-unfolding room
+unfolding correctionRow
 correct-requires c κs =
     let looked = c .before .before .before in
-    let a = looked .before .before .before .args in
+    let a = looked .before .before .before .before .before .args in
     let P = activeOf (a .pauli) in
     let S = stateOf (a .re .now) (a .im .now) in
     let rows = first-passed (widthRow widestKernel P) (roomRow (room (P .n) S)) (sym (looked .refusal .ensures) ∙ c .before .before .if1 .left) in
@@ -39,12 +38,18 @@ same-length c = search needs
 same-length-2 : tie.Need-same-length-2
 same-length-2 c = search needs
 
+same-length-3 : tie.Need-same-length-3
+same-length-3 c = search needs
+
+same-length-4 : tie.Need-same-length-4
+same-length-4 c = search needs
+
 returns-2 : tie.Need-returns-2
-unfolding correctionRow correction room
+unfolding correction
 returns-2 c =
     let called = c .before .before .before .before in
     let looked = called .before .before .before .before in
-    let a = looked .before .before .before .args in
+    let a = looked .before .before .before .before .before .args in
     let P = activeOf (a .pauli) in
     let S = stateOf (a .re .now) (a .im .now) in
     passing (correctionRow P S) finished (correction P S) S _ (sym (looked .refusal .ensures) ∙ called .before .before .before .if1 .left) (called .correct .ensures)
@@ -52,4 +57,4 @@ returns-2 c =
 pub correct-contiguous-active-spec : {M : Type 1} → statement M
 correct-contiguous-active-spec =
     tie.close
-    (tie.spec refusal-requires returns correct-requires same-length same-length-2 returns-2)
+    (tie.spec refusal-requires same-length same-length-2 returns correct-requires same-length-3 same-length-4 returns-2)

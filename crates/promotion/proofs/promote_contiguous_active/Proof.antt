@@ -14,17 +14,16 @@ refusal-requires : tie.Need-refusal-requires
 refusal-requires c κs = search needs
 
 returns : tie.Need-returns
-unfolding promotionRow room
 returns c =
-    let a = c .before .before .before .before .args in
+    let a = c .before .before .before .before .before .before .args in
     let S = stateOf (a .re .now) (a .im .now) in
     refusing (promotionRow (a .nqubits) (a .c) (a .q) S) finished (promotion (a .nqubits) (a .c) (a .q) S) S _ (c .before .refusal .ensures) (c .if1 .taken)
 
 promote-requires : tie.Need-promote-requires
-unfolding room
+unfolding promotionRow
 promote-requires c κs =
     let looked = c .before .before .before in
-    let a = looked .before .before .before .args in
+    let a = looked .before .before .before .before .before .args in
     let n = a .nqubits in
     let S = stateOf (a .re .now) (a .im .now) in
     let wide = first-passed (promotedWidthRow n) (first (unitRow (a .c) (a .q)) (roomRow (room (suc n) S))) (sym (looked .refusal .ensures) ∙ c .before .before .if1 .left) in
@@ -37,12 +36,18 @@ same-length c = search needs
 same-length-2 : tie.Need-same-length-2
 same-length-2 c = search needs
 
+same-length-3 : tie.Need-same-length-3
+same-length-3 c = search needs
+
+same-length-4 : tie.Need-same-length-4
+same-length-4 c = search needs
+
 returns-2 : tie.Need-returns-2
-unfolding promotionRow promotion room
+unfolding promotion
 returns-2 c =
     let called = c .before .before .before .before in
     let looked = called .before .before .before .before in
-    let a = looked .before .before .before .args in
+    let a = looked .before .before .before .before .before .args in
     let S = stateOf (a .re .now) (a .im .now) in
     passing (promotionRow (a .nqubits) (a .c) (a .q) S) finished (promotion (a .nqubits) (a .c) (a .q) S) S _
     (sym (looked .refusal .ensures) ∙ called .before .before .before .if1 .left) (called .promote .ensures)
@@ -50,4 +55,4 @@ returns-2 c =
 pub promote-contiguous-active-spec : {M : Type 1} → statement M
 promote-contiguous-active-spec =
     tie.close
-    (tie.spec refusal-requires returns promote-requires same-length same-length-2 returns-2)
+    (tie.spec refusal-requires same-length same-length-2 returns promote-requires same-length-3 same-length-4 returns-2)

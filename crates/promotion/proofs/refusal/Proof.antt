@@ -1,20 +1,14 @@
-use mathlib.Core.Path.{_≡_, refl, sym, ap, ap₂, _∙_}
-use mathlib.Core.Bool.{Bool, _&&_}
-use Prim.Native.Nat.{ℕ, zero, suc, _^_, _<_}
-use native.Mathlib.Nat.{zero-lt-suc}
+use mathlib.Core.Path.{sym, ap, ap₂, _∙_}
+use Prim.Native.Nat.{ℕ}
 use native.Mathlib.Numerals.{add-one}
 use native.Mathlib.Omega.{arith}
-use lib.Dec.{leb}
-use Rattle.answers.specs.Row.{first, first-some, first-none}
-use Rattle.amplitudelaws.specs.Rows.{promotedWidthRow, roomRow}
+use Rattle.answers.specs.Row.{first, first-some, first-none, some-row}
+use Rattle.amplitudelaws.specs.Rows.{promotedWidthRow, roomRow, promotionRow}
+use Rattle.amplitudelaws.specs.State.{stateOf, room}
 use Rattle.amplitudelaws.specs.Passed.{promoted-width-passed}
 use borrow.Author.Needs.{needs}
 use Rattle.promotion.proofs.refusal.Statement.{statement}
 use Rattle.promotion.proofs.refusal.Tie as tie
-
-some : (n : ℕ) → (n ≡ 0 → ⊥) → 0 < n
-some zero h = absurd (h refl)
-some (suc n) h = zero-lt-suc n
 
 row-requires : tie.Need-row-requires
 row-requires c κs = search needs
@@ -26,32 +20,21 @@ first-requires : tie.Need-first-requires
 first-requires c κs = search needs
 
 returns : tie.Need-returns
-unfolding promotedWidthRow
+unfolding promotionRow promotedWidthRow
 returns c =
-    let a = c .before .before .before .before .args in
+    let a = c .before .before .before .before .before .before .args in
     let wide = c .before .first .ensures ∙ ap₂ first (c .before .before .before .row .ensures) (c .before .before .row2 .ensures) in
-    wide ∙ sym (first-some (promotedWidthRow (a .nqubits)) _ (some _ (λ z. c .if1 .taken (wide ∙ z))))
+    wide ∙ sym (first-some (promotedWidthRow (a .nqubits)) _ (some-row _ (λ z. c .if1 .taken (wide ∙ z))))
 
 add-has-room : tie.Need-add-has-room
 unfolding promotedWidthRow
 add-has-room c =
-    let a = c .before .before .before .before .args in
+    let a = c .before .before .before .before .before .before .args in
     let wide = c .before .first .ensures ∙ ap₂ first (c .before .before .before .row .ensures) (c .before .before .row2 .ensures) in
     omega (arith, promoted-width-passed (a .nqubits) (sym wide ∙ c .if1 .left))
 
 has-room-requires : tie.Need-has-room-requires
 has-room-requires c κs = search needs
-
-add-has-room-2 : tie.Need-add-has-room-2
-unfolding promotedWidthRow
-add-has-room-2 c =
-    let d = c .before .before in
-    let a = d .before .before .before .args in
-    let wide = d .first .ensures ∙ ap₂ first (d .before .before .row .ensures) (d .before .row2 .ensures) in
-    omega (arith, promoted-width-passed (a .nqubits) (sym wide ∙ c .before .if1 .left))
-
-has-room-requires-2 : tie.Need-has-room-requires-2
-has-room-requires-2 c κs = search needs
 
 unit-row-requires : tie.Need-unit-row-requires
 unit-row-requires c κs = search needs
@@ -63,18 +46,17 @@ first-requires-2 : tie.Need-first-requires-2
 first-requires-2 c κs = search needs
 
 returns-2 : tie.Need-returns-2
-unfolding promotedWidthRow
+unfolding promotionRow promotedWidthRow
 returns-2 c =
-    let d = c .before .before .before .before .before .before in
-    let a = d .before .before .before .args in
+    let d = c .before .before .before .before .before in
+    let a = d .before .before .before .before .before .args in
     let n = a .nqubits in
+    let S = stateOf (a .re .now) (a .im .now) in
     let wide = d .first .ensures ∙ ap₂ first (d .before .before .row .ensures) (d .before .row2 .ensures) in
-    let next = ap (λ (m : ℕ). 2 ^ m) (add-one n) in
-    let re = c .before .before .before .before .has-room .ensures ∙ ap (λ (m : ℕ). leb m (a .re-len)) next in
-    let im = c .before .before .before .has-room2 .ensures ∙ ap (λ (m : ℕ). leb m (a .im-len)) next in
+    let enough = c .before .before .before .has-room .ensures ∙ ap (λ (m : ℕ). room m S) (add-one n) in
     c .first2 .ensures
-    ∙ ap₂ first (c .before .before .unit-row .ensures) (c .before .room-row .ensures ∙ ap₂ (λ (t u : Bool). roomRow (t && u)) re im)
-    ∙ sym (first-none (promotedWidthRow n) _ (sym wide ∙ c .before .before .before .before .before .if1 .left))
+    ∙ ap₂ first (c .before .before .unit-row .ensures) (c .before .room-row .ensures ∙ ap roomRow enough)
+    ∙ sym (first-none (promotedWidthRow n) _ (sym wide ∙ c .before .before .before .before .if1 .left))
 
 pub refusal-spec : {M : Type 1} → statement M
 refusal-spec =
@@ -86,8 +68,6 @@ refusal-spec =
     returns
     add-has-room
     has-room-requires
-    add-has-room-2
-    has-room-requires-2
     unit-row-requires
     room-row-requires
     first-requires-2

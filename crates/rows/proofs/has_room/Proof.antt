@@ -1,23 +1,17 @@
-use mathlib.Core.Path.{sym}
-use Prim.Native.Nat.{_^_}
-use native.Mathlib.Omega.{arith}
-use lib.Pow.{pow-mono}
+use Rattle.amplitudelaws.specs.State.{room}
 use borrow.Author.Needs.{needs}
-use borrow.Author.Tests.{lt-leb}
-use Rattle.bitlaws.specs.Digit.{one-shifted}
 use Rattle.rows.proofs.has_room.Statement.{statement}
 use Rattle.rows.proofs.has_room.Tie as tie
 
+is-enough-requires : tie.Need-is-enough-requires
+is-enough-requires c κs = search needs
+
+is-enough-requires-2 : tie.Need-is-enough-requires-2
+is-enough-requires-2 c κs = search needs
+
 returns : tie.Need-returns
-returns c =
-    let a = c .before .args in
-    sym (lt-leb (2 ^ a .nqubits) (a .length) (omega (arith, pow-mono {i = 64} {j = a .nqubits} (c .if1 .taken))))
-
-shl-result : tie.Need-shl-result
-shl-result c = search needs
-
-returns-2 : tie.Need-returns-2
-returns-2 c = rw (one-shifted 64 (c .before .args .nqubits) (c .if1 .left))
+unfolding room
+returns c = rw (c .before .is-enough .ensures, c .is-enough2 .ensures)
 
 pub has-room-spec : {M : Type 1} → statement M
-has-room-spec = tie.close (tie.spec returns shl-result returns-2)
+has-room-spec = tie.close (tie.spec is-enough-requires is-enough-requires-2 returns)

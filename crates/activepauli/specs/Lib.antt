@@ -1,2 +1,3 @@
 pub mod Active
 pub mod Calls
+pub mod Accepted

@@ -6,3 +6,4 @@ pub mod Product
 pub mod Fit
 pub mod Finite
 pub mod Rules
+pub mod Nan

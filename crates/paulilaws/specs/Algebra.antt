@@ -86,6 +86,14 @@ hermitian-square P = (
       (square-even (P .k) (ys P) (sym (ap (λ (m : ℕ). (P .k + P .k + 2 * m) % 4) (own-overlap P)) ∙ ap (λ (Q : Pauli). Q .k) e)),
 )
 
+-- a Hermitian Pauli's phase has the parity of its Ys
+pub hermitian-parity : (P : Pauli) → hermitian P ≡ true → P .k % 2 ≡ overlap (P .x) (P .z)
+unfolding hermitian coefficient ys overlap parity
+hermitian-parity P e = even (P .k) (ys P) (eqb-true ((P .k + 3 * ys P) % 4 % 2) 0 e)
+  where
+    even : (k y : ℕ) → (k + 3 * y) % 4 % 2 ≡ 0 → k % 2 ≡ y % 2
+    even k y e = omega arith
+
 -- A Hermitian Pauli is its letters, Y being i X Z, after its measurement sign: k is the number of Ys and twice the sign.
 pub sign-phase : (P : Pauli) → P .k < 4 → hermitian P ≡ true → P .k ≡ (ys P + 2 * sign P) % 4
 unfolding hermitian sign coefficient

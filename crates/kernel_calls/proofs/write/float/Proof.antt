@@ -1,17 +1,8 @@
 -- `kernel_calls::write::float` is safe: what is equal to itself is no NaN. Assumes nothing.
-use mathlib.Core.Path.{_≡_, subst}
-use mathlib.Core.Bool.{false, not}
-use lib.Dec.{T}
-use lib.Ieee.{Float, nan, inf, fin, eq, ne, isNan}
 use borrow.Author.Needs.{needs}
+use Rattle.floatlaws.specs.Nan.{no-nan}
 use Rattle.kernel_calls.proofs.write.float.Statement.{statement}
 use Rattle.kernel_calls.proofs.write.float.Tie as tie
-
-no-nan : (x : Float) → ne x x ≡ false → T (not (isNan x))
-unfolding ne eq isNan
-no-nan nan h = subst T h tt
-no-nan (inf s) h = tt
-no-nan (fin s m e) h = tt
 
 slice-aggregate-write-all : tie.Need-slice-aggregate-write-all
 slice-aggregate-write-all c = search needs

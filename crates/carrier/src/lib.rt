@@ -1,0 +1,115 @@
+// Carrying: a Pauli noted before a run is taken past each of its steps instead of being fired. The run
+// is written to a lent output with its signs and branches altered to suit, and the Pauli that is left at the
+// end is answered.
+mod passing;
+
+use activepauli::ActivePauli;
+use checker::CheckAnswer;
+use reader::StartAnswer;
+use steps::Cursor;
+use steps::Read;
+use steps::Step;
+ghost use mathlib.Core.Path.{_≡_};
+ghost use Prim.Native.Nat.{_+_, _≤_};
+ghost use lib.ListN.{length};
+ghost use Rattle.paulilaws.specs.Pauli.{mostQubits};
+ghost use Rattle.activepauli.specs.Active.{activeOf};
+ghost use Rattle.framelaws.specs.Carrying.{carriedSteps, endPauli};
+ghost use Rattle.runlaws.specs.Run.{widestRun};
+ghost use Rattle.runlaws.specs.Flags.{fieldSize, flagAt, flagged};
+ghost use Rattle.runlaws.specs.Calls.{carrying, carryingRow};
+ghost use Rattle.steps.specs.Meant.{stepOf};
+ghost use Rattle.carrier.specs.Told.{carryTold};
+ghost use Rattle.carrier.specs.Ready.{runIn, Ready};
+
+// The end Pauli; or the run's own refusal with its place, or 3, 4 or 16.
+pub enum CarryAnswer {
+    Carried(ActivePauli),
+    Refused(u8),
+    RefusedAt(u8, usize),
+}
+
+// A run of the service, at most 12 qubits wide. The output holds the run with its new signs and branches,
+// and what it held past the run's length; on a refusal it stays as it was.
+pub fn carry_run(run: &[u8], pauli: ActivePauli, out: &mut [u8]) -> CarryAnswer
+    ensures answer { λ r. ⌜ carryTold r ≡ carrying widestRun (now (run .entry)) (activeOf pauli) (now (out .entry)) .answer ⌝ }
+    ensures output { λ _. ⌜ now (out .exit) ≡ carrying widestRun (now (run .entry)) (activeOf pauli) (now (out .entry)) .lent ⌝ }
+{
+    carry_within(run, pauli, out, 12)
+}
+
+// A run under any limit on the width. A run that is checked has a start field: without one it was refused.
+fn carry_within(run: &[u8], pauli: ActivePauli, out: &mut [u8], limit: usize) -> CarryAnswer
+    requires { ⌜ limit ≤ mostQubits ⌝ }
+    ensures answer { λ r. ⌜ carryTold r ≡ carrying limit (now (run .entry)) (activeOf pauli) (now (out .entry)) .answer ⌝ }
+    ensures output { λ _. ⌜ now (out .exit) ≡ carrying limit (now (run .entry)) (activeOf pauli) (now (out .entry)) .lent ⌝ }
+{
+    if let CheckAnswer::Refused(row, at) = checker::check_within(run, limit) {
+        return CarryAnswer::RefusedAt(row, at);
+    }
+    let StartAnswer::Width(width) = reader::start(run, limit) else {
+        return CarryAnswer::RefusedAt(14, 0);
+    };
+    let row = carrying_row(pauli, width, run.len(), out.len());
+    if row != 0 {
+        return CarryAnswer::Refused(row);
+    }
+    bytes::copy(run, out);
+    let last = carry_steps(run, pauli, out, limit);
+    CarryAnswer::Carried(last)
+}
+
+// 3, 4 and 16: `size` is the run's, `room` the output's.
+fn carrying_row(pauli: ActivePauli, width: usize, size: usize, room: usize) -> u8
+    ensures { λ r. ⌜ r ≡ carryingRow (activeOf pauli) width size room ⌝ }
+{
+    if !pauli.is_pauli() {
+        return 3;
+    }
+    if pauli.nqubits != width {
+        return 4;
+    }
+    if room < size { 16 } else { 0 }
+}
+
+// Past each step of a run that was checked, of which `out` holds a copy: the Pauli at the end. What is no
+// step is the run's end.
+fn carry_steps(run: &[u8], pauli: ActivePauli, out: &mut [u8], limit: usize) -> ActivePauli
+    requires { ⌜ Ready limit (now run) (activeOf pauli) (now out) ⌝ }
+    ensures last { λ r. ⌜ activeOf r ≡ endPauli (activeOf pauli) (runIn limit (now (run .entry)) .steps) ⌝ }
+    ensures output { λ _. ⌜ now (out .exit) ≡ flagged 4 (carriedSteps (activeOf pauli) (runIn limit (now (run .entry)) .steps)) (now (out .entry)) ⌝ }
+{
+    let mut cursor = Cursor {
+        at: 4,
+        width: pauli.nqubits,
+    };
+    let mut held = pauli;
+    loop {
+        let got = reader::read(run, cursor, limit);
+        let Read::Step(step, next) = got else {
+            break;
+        };
+        let carried = passing::carried_step(held, step);
+        write_flag(out, cursor.at, carried);
+        held = passing::passed(held, step);
+        cursor = next;
+    }
+    held
+}
+
+// The step's sign or branch, written where the field that begins at `at` has it.
+fn write_flag(out: &mut [u8], at: usize, step: Step)
+    requires { ⌜ at + fieldSize (stepOf step) ≤ length (now out) ⌝ }
+    ensures { λ _. ⌜ now (out .exit) ≡ flagAt at (stepOf step) (now (out .entry)) ⌝ }
+{
+    match step {
+        Step::Rotation(_, sign, _, _) => {
+            out[at + 20] = passing::digit(sign);
+        }
+        Step::Projection(_, _, branch, _) => {
+            out[at + 21] = passing::digit(branch);
+        }
+        Step::Promotion(_, _) => {}
+        Step::Correction(_) => {}
+    }
+}

@@ -1,0 +1,70 @@
+-- `checker::check_within` meets its contract. Assumes nothing.
+use mathlib.Core.Path.{_≡_, sym, ap, _∙_}
+use mathlib.Core.List.{List}
+use mathlib.Core.Option.{some}
+use Prim.Native.Nat.{ℕ, _≤_}
+use lib.Ieee.{Float}
+use lib.ListN.{length}
+use borrow.Author.Needs.{needs}
+use Rattle.answers.specs.Answer.Answer.{refusedAt}
+use Rattle.framelaws.specs.Step.{Step}
+use Rattle.framelaws.specs.Survey.{survey}
+use Rattle.runlaws.specs.Calls.{surveyOf, checking}
+use Rattle.runlaws.specs.Field.{fieldAt}
+use Rattle.runlaws.specs.Run.{Run, mostBytes, mapped, walk, startWidth, runOf}
+use Rattle.runlaws.specs.Mapped.{mapped-mapped}
+use Rattle.runlaws.specs.WholeRun.{start-read, run-long, run-unbegun, run-begun}
+use Rattle.reader.specs.Told.{startTold}
+use Rattle.checker.proofs.check_within.Statement.{statement}
+use Rattle.checker.proofs.check_within.Tie as tie
+
+unbegun : (limit : ℕ) (s : List ℕ) → runOf limit s ≡ refusedAt 14 0 → refusedAt 14 0 ≡ checking limit s
+unfolding checking mapped
+unbegun limit s e = sym (ap (mapped surveyOf) e)
+
+begun : (limit : ℕ) (s : List ℕ) (n : ℕ) → length s ≤ mostBytes → startWidth limit (fieldAt s 0) ≡ some n
+    → mapped (survey n) (walk limit (length s) s (record { at = 4; width = n })) ≡ checking limit s
+unfolding checking surveyOf
+begun limit s n short e =
+    let steps = walk limit (length s) s (record { at = 4; width = n }) in
+    let whole : List (Step Float) → Run = λ ts. record { width = n; steps = ts } in
+    sym (ap (mapped surveyOf) (run-begun limit s short n e) ∙ mapped-mapped surveyOf whole steps)
+
+returns : tie.Need-returns
+returns c = unbegun _ _ (run-long _ _ (c .if1 .taken))
+
+start-requires : tie.Need-start-requires
+start-requires c κs = search needs
+
+enum-known-width : tie.Need-enum-known-width
+enum-known-width c = search needs
+
+enum-told : tie.Need-enum-told
+enum-told c = search needs
+
+returns-2 : tie.Need-returns-2
+returns-2 c =
+    let r = c .before .before in
+    unbegun _ _ (run-unbegun _ _ (r .before .if1 .left) (sym (r .start .ensures) ∙ ap startTold (c .enum-told .given .1)))
+
+survey-steps-requires : tie.Need-survey-steps-requires
+survey-steps-requires c κs =
+    let r = c .before .before .before in
+    (start-read _ _ _ (sym (r .start .ensures) ∙ ap startTold (c .before .width .given .1)) .begins, r .before .if1 .left)
+
+returns-3 : tie.Need-returns-3
+returns-3 c =
+    let r = c .before .before .before .before in
+    c .survey-steps .ensures ∙ begun _ _ _ (r .before .if1 .left) (sym (r .start .ensures) ∙ ap startTold (c .before .before .width .given .1))
+
+pub check-within-spec : {M : Type 1} → statement M
+check-within-spec =
+    tie.close
+    (tie.spec
+    returns
+    start-requires
+    enum-known-width
+    enum-told
+    returns-2
+    survey-steps-requires
+    returns-3)

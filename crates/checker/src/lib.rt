@@ -1,0 +1,127 @@
+// The check of a whole run, made before any amplitude or output byte is written. It answers the last
+// width, the number of steps (the fields between start and end), the greatest width, and how many
+// amplitudes the largest state has that a projection with an X part leaves; or the first refusal, in
+// file order, with its place.
+use reader::StartAnswer;
+use steps::Cursor;
+use steps::Read;
+use steps::Step;
+ghost use mathlib.Core.Path.{_≡_};
+ghost use Prim.Native.Nat.{_≤_, max};
+ghost use lib.ListN.{length};
+ghost use Rattle.framelaws.specs.Survey.{survey, mixedAmplitudes};
+ghost use Rattle.framelaws.specs.Survey as list;
+ghost use Rattle.runlaws.specs.Run.{mapped, walk, mostBytes, widestRun};
+ghost use Rattle.runlaws.specs.Calls.{checking};
+ghost use Rattle.steps.specs.Meant.{stepOf, readTold};
+ghost use Rattle.checker.specs.Surveyed.{Measured, Surveyable, endedBy};
+ghost use Rattle.checker.specs.Told.{surveyMeant, checkTold};
+
+pub struct Survey {
+    pub width: usize,
+    pub steps: usize,
+    pub greatest: usize,
+    pub scratch: usize,
+}
+
+pub enum CheckAnswer {
+    Run(Survey),
+    Refused(u8, usize),
+}
+
+// A run of the service, at most 12 qubits wide.
+pub fn check_run(run: &[u8]) -> CheckAnswer
+    ensures { λ r. ⌜ checkTold r ≡ checking widestRun (now (run .entry)) ⌝ }
+{
+    check_within(run, 12)
+}
+
+// A run under any limit on the width.
+pub fn check_within(run: &[u8], limit: usize) -> CheckAnswer
+    ensures { λ r. ⌜ checkTold r ≡ checking limit (now (run .entry)) ⌝ }
+{
+    if 65536 < run.len() {
+        return CheckAnswer::Refused(14, 0);
+    }
+    let StartAnswer::Width(width) = reader::start(run, limit) else {
+        return CheckAnswer::Refused(14, 0);
+    };
+    survey_steps(run, width, limit)
+}
+
+// The fields behind the start field, one after the other.
+fn survey_steps(run: &[u8], width: usize, limit: usize) -> CheckAnswer
+    requires { ⌜ (4 ≤ length (now run)) × (length (now run) ≤ mostBytes) ⌝ }
+    ensures { λ r. ⌜ checkTold r ≡ mapped (survey width) (walk limit (length (now (run .entry))) (now (run .entry)) (record { at = 4; width = width })) ⌝ }
+{
+    let mut cursor = Cursor { at: 4, width };
+    let mut survey = Survey {
+        width,
+        steps: 0,
+        greatest: width,
+        scratch: 0,
+    };
+    loop {
+        let got = reader::read(run, cursor, limit);
+        let Read::Step(step, next) = got else {
+            return ended(run.len(), got, survey);
+        };
+        survey = surveyed(survey, step, next.width);
+        cursor = next;
+    }
+}
+
+// The answer to a read that is no step: the refusal with its place; at the end field the survey, or 14 at
+// the first byte past it.
+fn ended(size: usize, got: Read, survey: Survey) -> CheckAnswer
+    ensures { λ r. ⌜ checkTold r ≡ endedBy size (readTold got) (surveyMeant survey) ⌝ }
+{
+    match got {
+        Read::Refused(row, at) => CheckAnswer::Refused(row, at),
+        Read::End(last) => {
+            if last.at < size {
+                return CheckAnswer::Refused(14, last.at);
+            }
+            CheckAnswer::Run(survey)
+        }
+        // Never: the loop goes on behind a step.
+        Read::Step(_, _) => CheckAnswer::Refused(0, 0),
+    }
+}
+
+// One step further; `width` is the width behind it.
+fn surveyed(survey: Survey, step: Step, width: usize) -> Survey
+    requires { ⌜ Surveyable (surveyMeant survey) (stepOf step) width ⌝ }
+    ensures { λ r. ⌜ surveyMeant r ≡ list.surveyed (surveyMeant survey) (stepOf step) ⌝ }
+{
+    Survey {
+        width,
+        steps: survey.steps + 1,
+        greatest: larger(survey.greatest, width),
+        scratch: larger(survey.scratch, mixed_amplitudes(survey.width, step)),
+    }
+}
+
+fn larger(a: usize, b: usize) -> usize
+    ensures { λ r. ⌜ r ≡ max a b ⌝ }
+{
+    if a < b { b } else { a }
+}
+
+// How many amplitudes the step, at this width, makes in the scratch.
+fn mixed_amplitudes(width: usize, step: Step) -> usize
+    requires { ⌜ Measured width (stepOf step) ⌝ }
+    ensures { λ r. ⌜ r ≡ mixedAmplitudes width (stepOf step) ⌝ }
+{
+    match step {
+        Step::Rotation(_, _, _, _) => 0,
+        Step::Promotion(_, _) => 0,
+        Step::Projection(pauli, _, _, _) => {
+            if pauli.x == 0 {
+                return 0;
+            }
+            1usize << (width - 1)
+        }
+        Step::Correction(_) => 0,
+    }
+}

@@ -1,0 +1,172 @@
+-- The frame theorem's hypotheses can be met: one closed run through every kind of step, carried past Y, on two sets of buffers that differ in all that
+-- plays no part. Assumes nothing.
+use mathlib.Core.Path.{_≡_, refl, sym, _∙_, subst}
+use mathlib.Core.List.{List, [], _∷_}
+use Prim.Native.Nat.{ℕ, zero, suc, _^_, _<_}
+use native.Mathlib.Omega.{arith}
+use lib.Count.{ones, onesIn}
+use lib.Dec.{lit≤}
+use lib.Ieee.{Float, ofBits, neg, add, sub, mul, le}
+use lib.ListN.{length, take}
+use Rattle.answers.specs.Answer.Answer.{accepted}
+use Rattle.answers.specs.Row.{row, first, answered, left}
+use Rattle.bitlaws.specs.Digit.{digit}
+use Rattle.bitlaws.specs.Opening.{openBit, dropBit}
+use Rattle.bitlaws.specs.Parity.{overlap, parity}
+use Rattle.bitlaws.specs.Source.{source}
+use Rattle.paulilaws.specs.Pauli.{Pauli, product, anti, fits, hermitian, coefficient, ys}
+use Rattle.paulilaws.specs.Frame.{raised, dropped}
+use Rattle.statelaws.specs.Over.{over}
+use Rattle.amplitudelaws.specs.Arithmetic.{power, times, conjugate, quarters, direction, negated, scale, scaled, mixed}
+use Rattle.amplitudelaws.specs.Binary.{inUnit}
+use Rattle.amplitudelaws.specs.Rotation.{rotationCoefficient, rotatedAlone, rotatedWith, rotatedBy, rotated}
+use Rattle.amplitudelaws.specs.Promotion.{raised as raisedQubit, promoted}
+use Rattle.amplitudelaws.specs.Projection.{minus, projectionCoefficient, remainingBy, remaining, projected}
+use Rattle.amplitudelaws.specs.Correction.{corrected}
+use Rattle.amplitudelaws.specs.Rows.{rotationKernelRow, measurementRow, hermitianRow, widthRow, unitRow, pivotRow, pivotMask, roomRow}
+use Rattle.amplitudelaws.specs.State.{State, point, written, room}
+use Rattle.amplitudelaws.specs.Steps as leaves
+use Rattle.framelaws.specs.Alike.{Finite}
+use Rattle.framelaws.specs.Allowed.{FiniteState, FiniteSteps}
+use Rattle.framelaws.specs.Step.{Step, widthAfter}
+use Rattle.framelaws.specs.Step.Step.{rotation, promotion, projection, correction}
+use Rattle.framelaws.specs.Rows.{stepRow, rotationStepRow, promotionStepRow, projectionStepRow}
+use Rattle.framelaws.specs.Carrying.{flipped, deciding, meets, absorbed, widened, carriedStep, passed, carriedSteps, endPauli}
+use Rattle.framelaws.specs.Survey.{mixedAmplitudes, surveyed, surveyFrom, survey}
+use Rattle.framelaws.specs.Memory.{Memory, memoryOf, stepped}
+use Rattle.runlaws.specs.Bytes.{number, floatAt, pauliAt}
+use Rattle.runlaws.specs.Field.{bodyLength, whole, fieldAt}
+use Rattle.runlaws.specs.Reading.{decoded, unless, judgedBy, judged, readField, readAt}
+use Rattle.runlaws.specs.Run.{Run, widestRun, mapped, ended, follow, walk, startWidth, begun, runOf}
+use Rattle.runlaws.specs.Flags.{fieldSize, flagAt, flagged}
+use Rattle.runlaws.specs.Calls.{Ending, onRun, byRow, surveyOf, scratchRoom, memoryRow, running, carryingRow, carriedRun, carrying}
+use Rattle.runlaws.specs.Theorem.{SameNumber, Agreeing, FiniteRun, fired, Frame, frame}
+use Rattle.examples.specs.Runs as bytes
+use Rattle.examples.specs.Runs.{one}
+
+abbrev Y : Pauli
+Y = record { n = 1; k = 1; x = 1; z = 1 }
+
+-- Rotations by Z, X and Y, the three kinds; a qubit promoted; a projection of X on qubit 0, with an X part, and one of Z; a qubit promoted again; a
+-- correction X. The signs and branches are the arguments.
+abbrev steps : ℕ → ℕ → ℕ → ℕ → ℕ → List ℕ
+steps z x y mixing diagonal =
+    bytes.runFrom 1
+    (λ rest.
+    bytes.rotation 0 0 1 z
+    (bytes.rotation 0 1 0 x
+    (bytes.rotation 1 1 1 y
+    (bytes.promotion (bytes.projection 0 1 0 0 mixing (bytes.projection 0 0 1 0 diagonal (bytes.promotion (bytes.correction 0 1 0 rest))))))))
+
+abbrev run : List ℕ
+run = steps 0 0 0 0 1
+
+-- basis 0, with room for the two qubits of the greatest width, and other entries and another scratch
+abbrev here : Memory
+here = memoryOf (one ∷ bytes.zero ∷ bytes.zero ∷ bytes.zero ∷ []) (bytes.zero ∷ bytes.zero ∷ bytes.zero ∷ bytes.zero ∷ []) (bytes.zero ∷ bytes.zero ∷ []) (bytes.zero ∷ bytes.zero ∷ [])
+
+abbrev there : Memory
+there = memoryOf (one ∷ bytes.zero ∷ one ∷ one ∷ one ∷ []) (bytes.zero ∷ bytes.zero ∷ one ∷ one ∷ []) (one ∷ one ∷ []) (one ∷ one ∷ one ∷ [])
+
+abbrev ending : Ending
+ending = record { width = 1; steps = 8 }
+
+-- the carried run: Y flips the signs of Z's and X's rotations and X's branch
+abbrev carried : List ℕ
+carried = steps 1 1 0 1 1
+
+abbrev end : Pauli
+end = record { n = 1; k = 1; x = 0; z = 0 }
+
+-- ---- the hypotheses
+
+abbrev output : List ℕ
+output = run
+
+carries : carrying widestRun run Y output .answer ≡ accepted end
+unfolding carrying onRun byRow carryingRow carriedRun runOf begun startWidth mapped walk follow ended readAt readField judged judgedBy unless decoded fieldAt whole bodyLength number floatAt pauliAt fits hermitian coefficient ys flagged flagAt fieldSize carriedSteps carriedStep passed flipped anti product deciding meets absorbed widened endPauli raised dropped dropBit widthAfter stepRow rotationStepRow promotionStepRow projectionStepRow rotationKernelRow measurementRow hermitianRow widthRow unitRow pivotRow pivotMask inUnit row first answered left le neg ofBits digit overlap parity ones onesIn
+carries = refl
+
+sent : take (length run) (carrying widestRun run Y output .lent) ≡ carried
+unfolding carrying onRun byRow carryingRow carriedRun runOf begun startWidth mapped walk follow ended readAt readField judged judgedBy unless decoded fieldAt whole bodyLength number floatAt pauliAt fits hermitian coefficient ys flagged flagAt fieldSize carriedSteps carriedStep passed flipped anti product deciding meets absorbed widened endPauli raised dropped dropBit widthAfter stepRow rotationStepRow promotionStepRow projectionStepRow rotationKernelRow measurementRow hermitianRow widthRow unitRow pivotRow pivotMask inUnit row first answered left le neg ofBits digit overlap parity ones onesIn
+sent = refl
+
+runs-here : running widestRun run here .answer ≡ accepted ending
+unfolding running onRun byRow memoryRow surveyOf survey surveyFrom surveyed mixedAmplitudes scratchRoom room roomRow runOf begun startWidth mapped walk follow ended readAt readField judged judgedBy unless decoded fieldAt whole bodyLength number floatAt pauliAt fits hermitian coefficient ys widthAfter stepRow rotationStepRow promotionStepRow projectionStepRow rotationKernelRow measurementRow hermitianRow widthRow unitRow pivotRow pivotMask inUnit row first answered left le neg ofBits digit overlap parity ones onesIn
+runs-here = refl
+
+runs-there : running widestRun run there .answer ≡ accepted ending
+unfolding running onRun byRow memoryRow surveyOf survey surveyFrom surveyed mixedAmplitudes scratchRoom room roomRow runOf begun startWidth mapped walk follow ended readAt readField judged judgedBy unless decoded fieldAt whole bodyLength number floatAt pauliAt fits hermitian coefficient ys widthAfter stepRow rotationStepRow promotionStepRow projectionStepRow rotationKernelRow measurementRow hermitianRow widthRow unitRow pivotRow pivotMask inUnit row first answered left le neg ofBits digit overlap parity ones onesIn
+runs-there = refl
+
+agreeing : Agreeing 1 (here .state) (there .state)
+unfolding point
+agreeing = record { at = at }
+  where
+    at : (b : ℕ) → b < 2 ^ 1 → point (here .state) b ≡ point (there .state) b
+    at zero h = refl
+    at (suc zero) h = refl
+    at (suc (suc b)) h = absurd (omega arith)
+
+-- ---- the premise on amplitudes
+
+-- the carried run's steps
+abbrev carriedList : List (Step Float)
+carriedList =
+    rotation (record { n = 1; k = 0; x = 0; z = 1 }) 1 bytes.zero one
+    ∷ rotation (record { n = 1; k = 0; x = 1; z = 0 }) 1 bytes.zero one
+    ∷ rotation (record { n = 1; k = 1; x = 1; z = 1 }) 0 bytes.zero one
+    ∷ promotion bytes.zero one
+    ∷ projection (record { n = 2; k = 0; x = 1; z = 0 }) 0 1 one
+    ∷ projection (record { n = 1; k = 0; x = 0; z = 1 }) 0 1 one
+    ∷ promotion bytes.zero one
+    ∷ correction (record { n = 1; k = 0; x = 1; z = 0 })
+    ∷ []
+
+reads : runOf widestRun carried ≡ accepted (record { width = 1; steps = carriedList })
+unfolding runOf begun startWidth mapped walk follow ended readAt readField judged judgedBy unless decoded fieldAt whole bodyLength number floatAt pauliAt fits hermitian coefficient ys widthAfter stepRow rotationStepRow promotionStepRow projectionStepRow rotationKernelRow measurementRow hermitianRow widthRow unitRow pivotRow pivotMask inUnit row first answered left le neg ofBits digit overlap parity ones onesIn
+reads = refl
+
+none : (S : State) → Finite (point S 0) → FiniteState 0 S
+none S f = record { at = at }
+  where
+    at : (b : ℕ) → b < 2 ^ 0 → Finite (point S b)
+    at zero h = f
+    at (suc b) h = absurd (omega arith)
+
+single : (S : State) → Finite (point S 0) → Finite (point S 1) → FiniteState 1 S
+single S f g = record { at = at }
+  where
+    at : (b : ℕ) → b < 2 ^ 1 → Finite (point S b)
+    at zero h = f
+    at (suc zero) h = g
+    at (suc (suc b)) h = absurd (omega arith)
+
+double : (S : State) → Finite (point S 0) → Finite (point S 1) → Finite (point S 2) → Finite (point S 3) → FiniteState 2 S
+double S f g h i = record { at = at }
+  where
+    at : (b : ℕ) → b < 2 ^ 2 → Finite (point S b)
+    at zero l = f
+    at (suc zero) l = g
+    at (suc (suc zero)) l = h
+    at (suc (suc (suc zero))) l = i
+    at (suc (suc (suc (suc b)))) l = absurd (omega arith)
+
+finite-steps : FiniteSteps 1 carriedList there
+unfolding stepped widthAfter leaves.rotation leaves.promotion leaves.projection leaves.correction leaves.scratchAfter leaves.scratchBy written point over rotated rotatedBy rotatedAlone rotatedWith rotationCoefficient promoted raisedQubit projected remaining remainingBy projectionCoefficient minus source corrected quarters power times conjugate direction negated scale scaled mixed openBit overlap parity ones onesIn digit neg add sub mul ofBits
+finite-steps = (single _ (tt, tt) (tt, tt), (single _ (tt, tt) (tt, tt), (single _ (tt, tt) (tt, tt), (single _ (tt, tt) (tt, tt), (double _ (tt, tt) (tt, tt) (tt, tt) (tt, tt), (single _ (tt, tt) (tt, tt), (none _ (tt, tt), (single _ (tt, tt) (tt, tt), single _ (tt, tt) (tt, tt)))))))))
+
+run-same : {R R' : Run} → accepted R ≡ accepted R' → R ≡ R'
+run-same e = cc
+
+finite-run : FiniteRun widestRun carried there
+finite-run R e = subst (λ (r : Run). FiniteSteps (r .width) (r .steps) there) (run-same (sym reads ∙ e)) finite-steps
+
+-- ---- what comes of them
+
+met : Frame widestRun run carried Y end here there ending
+met = subst (λ (t : List ℕ). Frame widestRun run t Y end here there ending) sent (frame widestRun run output Y end here there ending (lit≤ tt) ending runs-here runs-there carries agreeing)
+
+-- the same number in both parts of both amplitudes
+numbers : (b : ℕ) → b < 2 ^ 1 → SameNumber (point (running widestRun run (fired Y here) .lent .state) b .re) (point (leaves.correction end (running widestRun carried there .lent .state)) b .re) × SameNumber (point (running widestRun run (fired Y here) .lent .state) b .im) (point (leaves.correction end (running widestRun carried there .lent .state)) b .im)
+numbers b h = met .same finite-run b h

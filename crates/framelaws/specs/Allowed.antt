@@ -1,0 +1,32 @@
+-- A list of steps that no row refuses, and a list along which every amplitude is finite. Assumes nothing.
+use mathlib.Core.Path.{_≡_}
+use mathlib.Core.List.{List, [], _∷_}
+use Prim.Native.Nat.{ℕ, _^_, _<_}
+use lib.Ieee.{Float}
+use Rattle.amplitudelaws.specs.State.{State, point}
+use Rattle.framelaws.specs.Alike.{Finite}
+use Rattle.framelaws.specs.Memory.{Memory, stepped}
+use Rattle.framelaws.specs.Rows.{stepRow}
+use Rattle.framelaws.specs.Step.{Step, widthAfter}
+use Rattle.framelaws.specs.Step.Step.{rotation, promotion, projection, correction}
+
+-- a step's Pauli is on n qubits
+abbrev pub Placed : ℕ → Step Float → Type 0
+Placed n (rotation P sign c s) = P .n ≡ n
+Placed n (promotion c q) = Unit
+Placed n (projection M p v invnorm) = M .n ≡ n
+Placed n (correction P) = P .n ≡ n
+
+-- each step at its width, under a limit on it
+abbrev pub Allowed : ℕ → ℕ → List (Step Float) → Type 0
+Allowed limit n [] = Unit
+Allowed limit n (t ∷ ts) = Placed n t × (stepRow limit n t ≡ 0) × Allowed limit (widthAfter n t) ts
+
+-- every amplitude of the n qubits is finite
+pub record FiniteState (n : ℕ) (S : State) : Type 0 where
+  pub at : (b : ℕ) → b < 2 ^ n → Finite (point S b)
+
+-- at the start and after each step
+abbrev pub FiniteSteps : ℕ → List (Step Float) → Memory → Type 0
+FiniteSteps n [] m = FiniteState n (m .state)
+FiniteSteps n (t ∷ ts) m = FiniteState n (m .state) × FiniteSteps (widthAfter n t) ts (stepped n t m)

@@ -1,0 +1,110 @@
+-- A Pauli on the state's qubits stays one as it is carried, up to the end, where no row refuses a step. Assumes nothing.
+use mathlib.Core.Path.{_≡_, refl, sym, ap, _∙_, subst}
+use mathlib.Core.Bool.{Bool, true, false}
+use mathlib.Core.List.{List, [], _∷_}
+use Prim.Native.Nat.{ℕ, suc, _+_, _-_, _%_, _^_, _≤_, _<_}
+use native.Mathlib.Nat.{mod-lt, zero-lt-suc}
+use native.Mathlib.Omega.{arith}
+use lib.Ieee.{Float}
+use lib.Pow.{pow-lt}
+use Rattle.bitlaws.specs.Opening.{drop-lt}
+use Rattle.bitlaws.specs.Xor.{xor-lt}
+use Rattle.paulilaws.specs.Pauli.{Pauli, product, mostQubits}
+use Rattle.paulilaws.specs.Fitting.{Fitting}
+use Rattle.paulilaws.specs.Frame.{raised, dropped}
+use Rattle.framelaws.specs.Step.{Step, widthAfter, lastWidth}
+use Rattle.framelaws.specs.Step.Step.{rotation, promotion, projection, correction}
+use Rattle.framelaws.specs.Rows.{stepRow}
+use Rattle.framelaws.specs.Carrying.{absorbed, widened, passed, endPauli}
+use Rattle.framelaws.specs.Allowed.{Placed, Allowed}
+use Rattle.framelaws.specs.Passing.{promotion-below, projection-measurable}
+
+-- ---- what carrying does to a Pauli
+
+phase-small : (k : ℕ) → k % 4 ≤ 3
+phase-small k = let small = mod-lt k (zero-lt-suc 3) in omega (arith, small)
+
+raised-fitting : (e : ℕ) {P : Pauli} → Fitting P → Fitting (raised e P)
+unfolding raised
+raised-fitting e {P} f = record { phase = phase-small (P .k + e); width = f .width; xs = f .xs; zs = f .zs }
+
+pub product-fitting : {A B : Pauli} → B .n ≡ A .n → Fitting A → Fitting B → Fitting (product A B)
+unfolding product
+product-fitting {A} {B} e f g = record {
+  phase = phase-small _;
+  width = f .width;
+  xs = xor-lt (A .n) (A .x) (B .x) (f .xs) (rw e at (g .xs));
+  zs = xor-lt (A .n) (A .z) (B .z) (f .zs) (rw e at (g .zs));
+}
+
+widened-fitting : {P : Pauli} → P .n < mostQubits → Fitting P → Fitting (widened P)
+unfolding widened
+widened-fitting {P} h f = record {
+  phase = f .phase;
+  width = h;
+  xs = omega (arith, pow-lt {i = P .n} {j = suc (P .n)} (omega arith), f .xs);
+  zs = omega (arith, pow-lt {i = P .n} {j = suc (P .n)} (omega arith), f .zs);
+}
+
+dropped-fitting : (p : ℕ) {P : Pauli} → p < P .n → Fitting P → Fitting (dropped p P)
+unfolding dropped
+dropped-fitting p {P} h f =
+    let wide : P .n ≡ suc (P .n - 1) = omega arith in
+    let below = drop-lt p (P .n - 1) (omega arith) in
+    record {
+      phase = f .phase;
+      width = omega (arith, f .width);
+      xs = below (P .x) (subst (λ (k : ℕ). P .x < 2 ^ k) wide (f .xs));
+      zs = below (P .z) (subst (λ (k : ℕ). P .z < 2 ^ k) wide (f .zs));
+    }
+
+module _ (M : Pauli) (v : ℕ) (Q : Pauli) where
+  pub absorbed-width : (t : Bool) → absorbed t M v Q .n ≡ Q .n
+  unfolding absorbed raised product
+  absorbed-width true = refl
+  absorbed-width false = refl
+
+  pub absorbed-fitting : (t : Bool) → M .n ≡ Q .n → Fitting M → Fitting Q → Fitting (absorbed t M v Q)
+  unfolding absorbed
+  absorbed-fitting true e f g = raised-fitting _ (product-fitting e g f)
+  absorbed-fitting false e f g = g
+
+  -- and without the pivot's qubit
+  remaining-fitting : (t : Bool) (p : ℕ) → p < Q .n → M .n ≡ Q .n → Fitting M → Fitting Q → Fitting (dropped p (absorbed t M v Q))
+  remaining-fitting t p h e f g = dropped-fitting p (omega (arith, absorbed-width t)) (absorbed-fitting t e f g)
+
+-- ---- past a step, and past all
+
+-- a Pauli on a state of n qubits, n within the limit
+pub record Fitted (limit n : ℕ) (Q : Pauli) : Type 0 where
+  pub fitting : Fitting Q
+  pub width : Q .n ≡ n
+  pub within : n ≤ limit
+
+pub fitting-passed : (limit n : ℕ) (Q : Pauli) (t : Step Float) → limit ≤ mostQubits → n ≤ limit → Placed n t → stepRow limit n t ≡ 0 → Fitting Q → Q .n ≡ n
+    → Fitted limit (widthAfter n t) (passed Q t)
+unfolding stepRow widthAfter passed widened dropped raised
+fitting-passed limit n Q (rotation P sign c s) most within h e f width = record { fitting = f; width = width; within = within }
+fitting-passed limit n Q (promotion c q) most within h e f width =
+    let below : n < limit = promotion-below limit n c q e in
+    record { fitting = widened-fitting (omega arith) f; width = ap suc width; within = below }
+fitting-passed limit n Q (projection M p v invnorm) most within h e f width =
+    let measurable = projection-measurable M p v invnorm e in
+    record {
+      fitting = remaining-fitting M _ Q _ p (omega (arith, measurable .inside)) (h ∙ sym width) (measurable .fitting) f;
+      width = ap (λ (k : ℕ). k - 1) (absorbed-width M _ Q _ ∙ width);
+      within = omega arith;
+    }
+fitting-passed limit n Q (correction P) most within h e f width = record {
+  fitting = raised-fitting _ f;
+  width = width;
+  within = within;
+}
+
+pub fitting-end : (limit n : ℕ) (Q : Pauli) (ts : List (Step Float)) → limit ≤ mostQubits → n ≤ limit → Allowed limit n ts → Fitting Q → Q .n ≡ n
+    → Fitted limit (lastWidth n ts) (endPauli Q ts)
+unfolding lastWidth endPauli
+fitting-end limit n Q [] most within a f width = record { fitting = f; width = width; within = within }
+fitting-end limit n Q (t ∷ ts) most within a f width =
+    let next = fitting-passed limit n Q t most within (a .0) (a .1) f width in
+    fitting-end limit (widthAfter n t) (passed Q t) ts most (next .within) (a .2) (next .fitting) (next .width)

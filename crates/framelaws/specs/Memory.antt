@@ -1,0 +1,31 @@
+-- The four lent buffers, and what steps leave in them. Assumes nothing.
+use mathlib.Core.List.{List, [], _∷_}
+use Prim.Native.Nat.{ℕ}
+use lib.Ieee.{Float}
+use Rattle.amplitudelaws.specs.State.{State, stateOf}
+use Rattle.amplitudelaws.specs.Steps as leaves
+use Rattle.framelaws.specs.Step.{Step, widthAfter}
+use Rattle.framelaws.specs.Step.Step.{rotation, promotion, projection, correction}
+
+-- the state, and the scratch that a projection with an X part makes its result in
+pub record Memory : Type 0 where
+  pub state : State
+  pub scratch : State
+
+abbrev pub memoryOf : List Float → List Float → List Float → List Float → Memory
+memoryOf re im scratchRe scratchIm = record { state = stateOf re im; scratch = stateOf scratchRe scratchIm }
+
+-- the step's own definition on the state of n qubits, and what it leaves in the scratch
+unfoldable pub stepped : ℕ → Step Float → Memory → Memory
+stepped n (rotation P sign c s) m = record { state = leaves.rotation P sign c s (m .state); scratch = m .scratch }
+stepped n (promotion c q) m = record { state = leaves.promotion n c q (m .state); scratch = m .scratch }
+stepped n (projection M p v invnorm) m = record {
+  state = leaves.projection M p v invnorm (m .state);
+  scratch = leaves.scratchAfter M p v invnorm (m .state) (m .scratch);
+}
+stepped n (correction P) m = record { state = leaves.correction P (m .state); scratch = m .scratch }
+
+-- one step after the other
+unfoldable pub ran : ℕ → List (Step Float) → Memory → Memory
+ran n [] m = m
+ran n (t ∷ ts) m = ran (widthAfter n t) ts (stepped n t m)

@@ -1,0 +1,75 @@
+-- What the calls on runs answer, and what they leave in the lent buffers, refused or not. Assumes nothing.
+use mathlib.Core.Bool.{Bool, not, _&&_}
+use mathlib.Core.List.{List, _++_}
+use Prim.Native.Nat.{ℕ}
+use lib.Dec.{leb, ltb, eqb}
+use lib.ListN.{length, drop}
+use Rattle.answers.specs.Answer.{Answer}
+use Rattle.answers.specs.Answer.Answer.{accepted, refused, refusedAt}
+use Rattle.answers.specs.Row.{row, answered, left}
+use Rattle.paulilaws.specs.Pauli.{Pauli, fits}
+use Rattle.amplitudelaws.specs.Rows.{roomRow}
+use Rattle.amplitudelaws.specs.State.{State, room}
+use Rattle.framelaws.specs.Carrying.{carriedSteps, endPauli}
+use Rattle.framelaws.specs.Memory.{Memory, ran}
+use Rattle.framelaws.specs.Survey.{Survey, survey}
+use Rattle.runlaws.specs.Flags.{flagged}
+use Rattle.runlaws.specs.Run.{Run, mapped, runOf}
+
+-- a call's answer, and what it leaves in what it was lent
+pub record Outcome (A B : Type 0) : Type 0 where
+  pub answer : Answer A
+  pub lent : B
+
+-- a run that is refused leaves what was lent as it was
+unfoldable pub onRun : {A B : Type 0} → Answer Run → B → (Run → Outcome A B) → Outcome A B
+onRun (accepted R) old f = f R
+onRun (refused n) old f = record { answer = refused n; lent = old }
+onRun (refusedAt n at) old f = record { answer = refusedAt n at; lent = old }
+
+-- by the number of a row: refused by it, or done
+unfoldable pub byRow : {A B : Type 0} → ℕ → A → B → B → Outcome A B
+byRow r a new old = record { answer = answered r a; lent = left r new old }
+
+-- ---- checking
+
+unfoldable pub surveyOf : Run → Survey
+surveyOf R = survey (R .width) (R .steps)
+
+unfoldable pub checking : ℕ → List ℕ → Answer Survey
+checking limit s = mapped surveyOf (runOf limit s)
+
+-- ---- running
+
+-- the last width, and the number of steps done
+pub record Ending : Type 0 where
+  pub width : ℕ
+  pub steps : ℕ
+
+abbrev pub endingOf : Survey → Ending
+endingOf v = record { width = v .width; steps = v .steps }
+
+-- both scratch lists have room for k amplitudes
+unfoldable pub scratchRoom : ℕ → State → Bool
+scratchRoom k S = leb k (length (S .re)) && leb k (length (S .im))
+
+-- 13: the state's room at the greatest width, the scratch's for the largest state that a projection with an X part leaves
+unfoldable pub memoryRow : Survey → Memory → ℕ
+memoryRow v m = roomRow (room (v .greatest) (m .state) && scratchRoom (v .scratch) (m .scratch))
+
+unfoldable pub running : ℕ → List ℕ → Memory → Outcome Ending Memory
+running limit s m = onRun (runOf limit s) m (λ R. byRow (memoryRow (surveyOf R) m) (endingOf (surveyOf R)) (ran (R .width) (R .steps) m) m)
+
+-- ---- carrying
+
+-- 3: no Pauli, 4: not on the start qubits, 16: an output that is shorter than the run
+unfoldable pub carryingRow : Pauli → ℕ → ℕ → ℕ → ℕ
+carryingRow Q width size room = row (not (fits Q)) 3 (row (not (eqb (Q .n) width)) 4 (row (ltb room size) 16 0))
+
+-- the run with the carried steps' signs and branches
+unfoldable pub carriedRun : Pauli → Run → List ℕ → List ℕ
+carriedRun Q R s = flagged 4 (carriedSteps Q (R .steps)) s
+
+unfoldable pub carrying : ℕ → List ℕ → Pauli → List ℕ → Outcome Pauli (List ℕ)
+carrying limit s Q out =
+    onRun (runOf limit s) out (λ R. byRow (carryingRow Q (R .width) (length s) (length out)) (endPauli Q (R .steps)) (carriedRun Q R s ++ drop (length s) out) out)

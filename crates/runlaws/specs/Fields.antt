@@ -1,0 +1,195 @@
+-- What the field read at a cursor says about the run. Assumes nothing.
+use mathlib.Core.Path.{_≡_, refl, ap, subst}
+use mathlib.Core.Bool.{Bool, true, false, cond}
+use mathlib.Core.List.{List}
+use mathlib.Core.Option.{Option, none, some}
+use Prim.Native.Nat.{ℕ, zero, suc, _+_, _≤_}
+use native.Mathlib.Omega.{arith}
+use lib.Dec.{leb, eqb, lit<}
+use lib.Ieee.{Float}
+use lib.ListN.{length, length-take, length-drop}
+use borrow.Author.Tests.{leb-true, leb-false, lt-leb, eqb-true}
+use Rattle.answers.specs.Row.{row, row-passed, first-passed}
+use Rattle.paulilaws.specs.Fitting.{both-left, both-right}
+use Rattle.amplitudelaws.specs.Rows.{unitRow}
+use Rattle.framelaws.specs.Step.{Step, widthAfter}
+use Rattle.framelaws.specs.Step.Step.{rotation, promotion, projection, correction}
+use Rattle.framelaws.specs.Rows.{stepRow, promotionStepRow}
+use Rattle.framelaws.specs.Allowed.{Placed}
+use Rattle.runlaws.specs.Bytes.{byteAt, floatAt, pauliAt, part}
+use Rattle.runlaws.specs.Field.{Field, bodyLength, whole, fieldAt}
+use Rattle.runlaws.specs.Flags.{fieldSize}
+use Rattle.runlaws.specs.Reading.{Cursor, Read, isField, decoded, unless, judgedBy, judged, readField, readAt}
+use Rattle.runlaws.specs.Reading.Read.{stepRead, endRead, refusedRead}
+
+-- what holds of either side under its test holds of the side that is taken
+pub by-test : {A : Type 0} (P : A → Type 0) (q : Bool) {a b : A} → (q ≡ true → P a) → (q ≡ false → P b) → P (cond q a b)
+by-test P true f g = f refl
+by-test P false f g = g refl
+
+-- ---- fields
+
+-- a field that stands whole in the run
+pub record Whole (s : List ℕ) (at : ℕ) (f : Field) : Type 0 where
+  pub tag : f .tag ≡ byteAt s at
+  pub body : f .body ≡ part (at + 3) (bodyLength s at) s
+  pub size : length (f .body) ≡ bodyLength s at
+  pub next : f .next ≡ at + 3 + bodyLength s at
+  pub inside : at + 3 + bodyLength s at ≤ length s
+
+module _ (s : List ℕ) (at : ℕ) where
+  WholeOr : Option Field → Type 0
+  WholeOr none = Unit
+  WholeOr (some f) = Whole s at f
+
+  pub field-whole : (f : Field) → fieldAt s at ≡ some f → Whole s at f
+  unfolding fieldAt whole WholeOr
+  field-whole f e = subst WholeOr e
+      (by-test WholeOr (leb (at + 3 + bodyLength s at) (length s))
+      (λ h.
+      let inside : at + 3 + bodyLength s at ≤ length s = leb-true (at + 3 + bodyLength s at) (length s) h in
+      record { tag = refl; body = refl; size = simp (length-take, length-drop) (omega arith); next = refl; inside = inside })
+      (λ h. tt))
+
+  -- nothing stands past the end
+  pub field-past : length s ≤ at → fieldAt s at ≡ none
+  unfolding fieldAt whole
+  field-past h = rw (lt-leb (at + 3 + bodyLength s at) (length s) (omega arith))
+
+-- the fields that are steps, and their steps
+pub data Decodes (n : ℕ) (f : Field) : Step Float → Type 0 where
+  rotates : f .tag ≡ 2 → length (f .body) ≡ 34
+      → Decodes n f (rotation (pauliAt n (f .body)) (byteAt (f .body) 17) (floatAt (f .body) 18) (floatAt (f .body) 26))
+  promotes : f .tag ≡ 3 → length (f .body) ≡ 16 → Decodes n f (promotion (floatAt (f .body) 0) (floatAt (f .body) 8))
+  projects : f .tag ≡ 4 → length (f .body) ≡ 27
+      → Decodes n f (projection (pauliAt n (f .body)) (byteAt (f .body) 17) (byteAt (f .body) 18) (floatAt (f .body) 19))
+  corrects : f .tag ≡ 5 → length (f .body) ≡ 17 → Decodes n f (correction (pauliAt n (f .body)))
+
+module _ (n : ℕ) (f : Field) where
+  DecodesOr : Option (Step Float) → Type 0
+  DecodesOr none = Unit
+  DecodesOr (some t) = Decodes n f t
+
+  has-tag : (tag size : ℕ) → isField tag size f ≡ true → f .tag ≡ tag
+  has-tag tag size h = eqb-true (f .tag) tag (both-left (eqb (f .tag) tag) (eqb (length (f .body)) size) h)
+
+  pub has-size : (tag size : ℕ) → isField tag size f ≡ true → length (f .body) ≡ size
+  has-size tag size h = eqb-true (length (f .body)) size (both-right (eqb (f .tag) tag) (eqb (length (f .body)) size) h)
+
+  pub decodes : (t : Step Float) → decoded n f ≡ some t → Decodes n f t
+  unfolding decoded DecodesOr
+  decodes t e = subst DecodesOr e
+      (by-test DecodesOr (isField 2 34 f) (λ h. rotates (has-tag 2 34 h) (has-size 2 34 h))
+      (λ _. by-test DecodesOr (isField 3 16 f) (λ h. promotes (has-tag 3 16 h) (has-size 3 16 h))
+      (λ _. by-test DecodesOr (isField 4 27 f) (λ h. projects (has-tag 4 27 h) (has-size 4 27 h))
+      (λ _. by-test DecodesOr (isField 5 17 f) (λ h. corrects (has-tag 5 17 h) (has-size 5 17 h)) (λ _. tt)))))
+
+-- and back: a field that is a step is read as it
+pub read-decodes : (limit : ℕ) (c : Cursor) (f : Field) {t : Step Float} → Decodes (c .width) f t → stepRow limit (c .width) t ≡ 0
+    → readField limit c (some f) ≡ stepRead t (record { at = f .next; width = widthAfter (c .width) t })
+unfolding readField judged judgedBy unless decoded
+read-decodes limit c f (rotates tag size) h = rw (tag, size, h)
+read-decodes limit c f (promotes tag size) h = rw (tag, size, h)
+read-decodes limit c f (projects tag size) h = rw (tag, size, h)
+read-decodes limit c f (corrects tag size) h = rw (tag, size, h)
+
+decodes-size : {n : ℕ} {f : Field} {t : Step Float} → Decodes n f t → fieldSize t ≡ 3 + length (f .body)
+unfolding fieldSize
+decodes-size (rotates tag size) = rw size
+decodes-size (promotes tag size) = rw size
+decodes-size (projects tag size) = rw size
+decodes-size (corrects tag size) = rw size
+
+decodes-placed : {n : ℕ} {f : Field} {t : Step Float} → Decodes n f t → Placed n t
+unfolding pauliAt
+decodes-placed (rotates tag size) = refl
+decodes-placed (promotes tag size) = tt
+decodes-placed (projects tag size) = refl
+decodes-placed (corrects tag size) = refl
+
+-- ---- reads
+
+-- a field at the cursor that is read as a step
+pub record StepField (limit : ℕ) (s : List ℕ) (c d : Cursor) (t : Step Float) : Type 0 where
+  pub field : Field
+  pub here : fieldAt s (c .at) ≡ some field
+  pub is : Decodes (c .width) field t
+  pub row : stepRow limit (c .width) t ≡ 0
+  pub behind : d ≡ record { at = field .next; width = widthAfter (c .width) t }
+
+pub record StepRead (limit : ℕ) (s : List ℕ) (c : Cursor) (t : Step Float) (d : Cursor) : Type 0 where
+  pub next : d .at ≡ c .at + fieldSize t
+  pub inside : d .at ≤ length s
+  pub width : d .width ≡ widthAfter (c .width) t
+  pub row : stepRow limit (c .width) t ≡ 0
+  pub placed : Placed (c .width) t
+
+module _ (limit : ℕ) (s : List ℕ) (c : Cursor) where
+  Said : Read → Type 0
+  Said (stepRead t d) = StepField limit s c d t
+  Said (endRead d) = (c .at + 3 ≤ d .at) × (d .at ≤ length s) × (d .width ≡ c .width)
+  Said (refusedRead n at) = at ≡ c .at
+
+  module _ (f : Field) (here : fieldAt s (c .at) ≡ some f) where
+    said-row : (t : Step Float) → Decodes (c .width) f t → (r : ℕ) → stepRow limit (c .width) t ≡ r → Said (judgedBy r c (f .next) t)
+    unfolding Said judgedBy unless
+    said-row t is zero e = record { field = f; here = here; is = is; row = e; behind = refl }
+    said-row t is (suc r) e = refl
+
+    said-judged : (o : Option (Step Float)) → decoded (c .width) f ≡ o → Said (judged limit c (f .next) o)
+    unfolding Said judged
+    said-judged none e = refl
+    said-judged (some t) e = said-row t (decodes (c .width) f t e) (stepRow limit (c .width) t) refl
+
+  said-field : (o : Option Field) → fieldAt s (c .at) ≡ o → Said (readField limit c o)
+  unfolding Said readField
+  said-field none e = refl
+  said-field (some f) e =
+      let w = field-whole s (c .at) f e in
+      by-test Said (isField 6 0 f) (λ h. (omega (arith, w .next), omega (arith, w .next, w .inside), refl))
+      (λ h. said-judged f e (decoded (c .width) f) refl)
+
+  said : Said (readAt limit s c)
+  unfolding readAt
+  said = said-field (fieldAt s (c .at)) refl
+
+  pub step-field : (d : Cursor) (t : Step Float) → readAt limit s c ≡ stepRead t d → StepField limit s c d t
+  unfolding Said
+  step-field d t e = subst Said e said
+
+  pub end-read : (d : Cursor) → readAt limit s c ≡ endRead d → (c .at + 3 ≤ d .at) × (d .at ≤ length s) × (d .width ≡ c .width)
+  unfolding Said
+  end-read d e = subst Said e said
+
+  pub refused-read : (n at : ℕ) → readAt limit s c ≡ refusedRead n at → at ≡ c .at
+  unfolding Said
+  refused-read n at e = subst Said e said
+
+  pub step-read : (d : Cursor) (t : Step Float) → readAt limit s c ≡ stepRead t d → StepRead limit s c t d
+  step-read d t e =
+      let k = step-field d t e in
+      let w = field-whole s (c .at) (k .field) (k .here) in
+      let at : d .at ≡ k .field .next = ap (λ (d : Cursor). d .at) (k .behind) in
+      record {
+        next = omega (arith, at, w .next, w .size, decodes-size (k .is));
+        inside = omega (arith, at, w .next, w .inside);
+        width = ap (λ (d : Cursor). d .width) (k .behind);
+        row = k .row;
+        placed = decodes-placed (k .is);
+      }
+
+pub size-ge : (t : Step Float) → 3 ≤ fieldSize t
+unfolding fieldSize
+size-ge (rotation P sign c s) = omega arith
+size-ge (promotion c q) = omega arith
+size-ge (projection M p v invnorm) = omega arith
+size-ge (correction P) = omega arith
+
+-- a step keeps the width within the limit
+pub width-kept : (limit n : ℕ) (t : Step Float) → n ≤ limit → stepRow limit n t ≡ 0 → widthAfter n t ≤ limit
+unfolding widthAfter stepRow promotionStepRow
+width-kept limit n (rotation P sign c s) h e = h
+width-kept limit n (promotion c q) h e =
+    leb-false limit n (row-passed (leb limit n) 15 0 (lit< tt) (first-passed (unitRow c q) (row (leb limit n) 15 0) e .1) .0)
+width-kept limit n (projection M p v invnorm) h e = omega arith
+width-kept limit n (correction P) h e = h

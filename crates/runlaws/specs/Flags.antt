@@ -1,0 +1,26 @@
+-- The sign and branch bytes of a run's fields. Assumes nothing.
+use mathlib.Core.List.{List, [], _∷_}
+use Prim.Native.Nat.{ℕ, _+_}
+use lib.ListN.{set}
+use Rattle.framelaws.specs.Step.{Step}
+use Rattle.framelaws.specs.Step.Step.{rotation, promotion, projection, correction}
+
+module _ {R : Type 0} where
+  -- the bytes of a step's field: three, and its body's
+  unfoldable pub fieldSize : Step R → ℕ
+  fieldSize (rotation P sign c s) = 37
+  fieldSize (promotion c q) = 19
+  fieldSize (projection M p v invnorm) = 30
+  fieldSize (correction P) = 20
+
+  -- the step's sign or branch, written where the field that begins at `at` has it
+  unfoldable pub flagAt : ℕ → Step R → List ℕ → List ℕ
+  flagAt at (rotation P sign c s) bytes = set bytes (at + 20) sign
+  flagAt at (promotion c q) bytes = bytes
+  flagAt at (projection M p v invnorm) bytes = set bytes (at + 21) v
+  flagAt at (correction P) bytes = bytes
+
+  -- all of them, the first step's field beginning at `at`
+  unfoldable pub flagged : ℕ → List (Step R) → List ℕ → List ℕ
+  flagged at [] bytes = bytes
+  flagged at (t ∷ ts) bytes = flagged (at + fieldSize t) ts (flagAt at t bytes)

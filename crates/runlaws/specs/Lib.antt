@@ -1,0 +1,17 @@
+pub mod Bytes
+pub mod Field
+pub mod Reading
+pub mod Run
+pub mod Flags
+pub mod Calls
+pub mod Ledger
+pub mod Conserved
+pub mod Fields
+pub mod Mapped
+pub mod Walk
+pub mod WholeRun
+pub mod Outcomes
+pub mod OwnBytes
+pub mod Flagged
+pub mod Reread
+pub mod Theorem

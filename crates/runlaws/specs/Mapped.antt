@@ -1,0 +1,29 @@
+-- Laws of an answer whose value is changed. Assumes nothing.
+use mathlib.Core.Path.{_≡_, refl}
+use Prim.Native.Nat.{ℕ}
+use native.Mathlib.Omega.{arith}
+use Rattle.answers.specs.Answer.{Answer}
+use Rattle.answers.specs.Answer.Answer.{accepted, refused, refusedAt}
+use Rattle.runlaws.specs.Run.{mapped}
+
+pub no-answer : {A : Type 0} {a : A} {n i : ℕ} → refusedAt n i ≡ accepted a → ⊥
+no-answer e = let z : _≡_ {A = ℕ} 0 1 = cc in omega arith
+
+module _ {A B : Type 0} (f : A → B) where
+  -- an accepted value comes from one
+  pub record From (a : Answer A) (b : B) : Type 0 where
+    pub value : A
+    pub was : a ≡ accepted value
+    pub is : b ≡ f value
+
+  pub mapped-accepted : (a : Answer A) (b : B) → mapped f a ≡ accepted b → From a b
+  unfolding mapped
+  mapped-accepted (accepted a) b e = record { value = a; was = refl; is = cc }
+  mapped-accepted (refused n) b e = absurd (let z : _≡_ {A = ℕ} 0 1 = cc in omega arith)
+  mapped-accepted (refusedAt n i) b e = absurd (no-answer e)
+
+pub mapped-mapped : {A B C : Type 0} (g : B → C) (f : A → B) (a : Answer A) → mapped g (mapped f a) ≡ mapped (λ x. g (f x)) a
+unfolding mapped
+mapped-mapped g f (accepted a) = refl
+mapped-mapped g f (refused n) = refl
+mapped-mapped g f (refusedAt n i) = refl

@@ -1,0 +1,133 @@
+-- What is known of a call on a run that is accepted, and of one that is not. Assumes nothing.
+use mathlib.Core.Path.{_≡_, refl, sym}
+use mathlib.Core.Bool.{Bool, true, false, not, _&&_}
+use mathlib.Core.List.{List, [], _∷_, _++_}
+use Prim.Native.Nat.{ℕ, zero, suc, _≤_}
+use native.Mathlib.Omega.{arith}
+use lib.Dec.{lit<}
+use lib.Ieee.{Float}
+use lib.ListN.{length, drop}
+use borrow.Author.Tests.{not-false}
+use Rattle.answers.specs.Answer.{Answer}
+use Rattle.answers.specs.Answer.Answer.{accepted, refused, refusedAt}
+use Rattle.answers.specs.Row.{row, answered, left, accepted-row, answered-none, left-none, row-passed}
+use Rattle.paulilaws.specs.Pauli.{Pauli}
+use Rattle.paulilaws.specs.Fitting.{both-left, both-right}
+use Rattle.amplitudelaws.specs.Rows.{roomRow}
+use Rattle.amplitudelaws.specs.State.{room}
+use Rattle.framelaws.specs.Allowed.{Allowed}
+use Rattle.framelaws.specs.Carrying.{endPauli}
+use Rattle.framelaws.specs.Memory.{Memory, ran}
+use Rattle.framelaws.specs.Step.{Step, widthAfter, lastWidth}
+use Rattle.framelaws.specs.Survey.{Survey}
+use Rattle.framelaws.specs.Surveyed.{survey-width}
+use Rattle.runlaws.specs.Run.{Run, runOf}
+use Rattle.runlaws.specs.Calls.{Outcome, onRun, byRow, surveyOf, Ending, endingOf, scratchRoom, memoryRow, running, carryingRow, carriedRun, carrying}
+use Rattle.runlaws.specs.Ledger.{isAccepted}
+use Rattle.runlaws.specs.Fields.{width-kept}
+use Rattle.runlaws.specs.WholeRun.{run-allowed}
+
+-- a call that has done its work: the run that it read, and no row of its own
+pub record Done {A B : Type 0} (read : Answer Run) (o : Outcome A B) (row : Run → ℕ) (value : Run → A) (new : Run → B) (a : A) : Type 0 where
+  pub run : Run
+  pub was : read ≡ accepted run
+  pub passed : row run ≡ 0
+  pub value-is : a ≡ value run
+  pub lent-is : o .lent ≡ new run
+
+module _ {A B : Type 0} (row : Run → ℕ) (value : Run → A) (new : Run → B) (old : B) where
+  -- what a call on a run does
+  abbrev outcome : Answer Run → Outcome A B
+  outcome read = onRun read old (λ R. byRow (row R) (value R) (new R) old)
+
+  done : (read : Answer Run) (a : A) → outcome read .answer ≡ accepted a → Done read (outcome read) row value new a
+  unfolding onRun byRow
+  done (accepted R) a e =
+      let known = accepted-row (row R) (value R) a (sym e) in
+      record { run = R; was = refl; passed = known .0; value-is = known .1; lent-is = left-none (row R) (new R) old (known .0) }
+  done (refused n) a e = absurd (let z : _≡_ {A = ℕ} 0 1 = cc in omega arith)
+  done (refusedAt n at) a e = absurd (let z : _≡_ {A = ℕ} 0 1 = cc in omega arith)
+
+  answers : (read : Answer Run) (R : Run) → read ≡ accepted R → row R ≡ 0 → (outcome read .answer ≡ accepted (value R)) × (outcome read .lent ≡ new R)
+  unfolding onRun byRow
+  answers read R e z = rw e (answered-none (row R) (value R) z, left-none (row R) (new R) old z)
+
+  kept : (read : Answer Run) → isAccepted (outcome read .answer) ≡ false → outcome read .lent ≡ old
+  unfolding onRun byRow isAccepted
+  kept (accepted R) e = by-row (row R) e
+    where
+      by-row : (r : ℕ) → isAccepted (answered r (value R)) ≡ false → left r (new R) old ≡ old
+      by-row zero e = absurd (let z : _≡_ {A = ℕ} 0 1 = unfold answered in cc in omega arith)
+      by-row (suc r) e = unfold left in refl
+  kept (refused n) e = refl
+  kept (refusedAt n at) e = refl
+
+-- ---- running
+
+-- both groups of buffers have their room
+pub room-both : (v : Survey) (m : Memory) → memoryRow v m ≡ 0 → (room (v .greatest) (m .state) ≡ true) × (scratchRoom (v .scratch) (m .scratch) ≡ true)
+unfolding memoryRow roomRow
+room-both v m e =
+    let a : Bool = room (v .greatest) (m .state) in
+    let b : Bool = scratchRoom (v .scratch) (m .scratch) in
+    let enough = not-false (a && b) (row-passed (not (a && b)) 13 0 (lit< tt) e .0) in
+    (both-left a b enough, both-right a b enough)
+
+module _ (limit : ℕ) (s : List ℕ) (m : Memory) where
+  abbrev ownRow : Run → ℕ
+  ownRow R = memoryRow (surveyOf R) m
+
+  abbrev ends : Run → Ending
+  ends R = endingOf (surveyOf R)
+
+  abbrev after : Run → Memory
+  after R = ran (R .width) (R .steps) m
+
+  pub running-done : (E : Ending) → running limit s m .answer ≡ accepted E → Done (runOf limit s) (running limit s m) ownRow ends after E
+  unfolding running
+  running-done E e = done ownRow ends after m (runOf limit s) E e
+
+  pub running-answers : (R : Run) → runOf limit s ≡ accepted R → ownRow R ≡ 0 → (running limit s m .answer ≡ accepted (ends R)) × (running limit s m .lent ≡ after R)
+  unfolding running
+  running-answers R e z = answers ownRow ends after m (runOf limit s) R e z
+
+  -- a refused run leaves the state and the scratch as they were
+  pub running-kept : isAccepted (running limit s m .answer) ≡ false → running limit s m .lent ≡ m
+  unfolding running
+  running-kept e = kept ownRow ends after m (runOf limit s) e
+
+-- ---- where an accepted run ends
+
+last-within : (limit n : ℕ) (ts : List (Step Float)) → n ≤ limit → Allowed limit n ts → lastWidth n ts ≤ limit
+unfolding lastWidth
+last-within limit n [] h a = h
+last-within limit n (t ∷ ts) h a = last-within limit (widthAfter n t) ts (width-kept limit n t h (a .1)) (a .2)
+
+pub ending-within : (limit : ℕ) (s : List ℕ) (m : Memory) (E : Ending) → running limit s m .answer ≡ accepted E → E .width ≤ limit
+unfolding surveyOf
+ending-within limit s m E e =
+    let known = running-done limit s m E e in
+    let R : Run = known .run in
+    let read = run-allowed limit s R (known .was) in
+    rw (known .value-is, survey-width (R .width) (R .steps)) (last-within limit (R .width) (R .steps) (read .width) (read .allowed))
+
+-- ---- carrying
+
+module _ (limit : ℕ) (s : List ℕ) (Q : Pauli) (out : List ℕ) where
+  abbrev carryRow : Run → ℕ
+  carryRow R = carryingRow Q (R .width) (length s) (length out)
+
+  abbrev ending : Run → Pauli
+  ending R = endPauli Q (R .steps)
+
+  abbrev output : Run → List ℕ
+  output R = carriedRun Q R s ++ drop (length s) out
+
+  pub carrying-done : (end : Pauli) → carrying limit s Q out .answer ≡ accepted end → Done (runOf limit s) (carrying limit s Q out) carryRow ending output end
+  unfolding carrying
+  carrying-done end e = done carryRow ending output out (runOf limit s) end e
+
+  -- a refused call leaves the output as it was
+  pub carrying-kept : isAccepted (carrying limit s Q out .answer) ≡ false → carrying limit s Q out .lent ≡ out
+  unfolding carrying
+  carrying-kept e = kept carryRow ending output out (runOf limit s) e

@@ -1,0 +1,60 @@
+-- What reading the field at a cursor gives. Assumes nothing.
+use mathlib.Core.Bool.{Bool, cond, _&&_}
+use mathlib.Core.List.{List}
+use mathlib.Core.Option.{Option, none, some}
+use Prim.Native.Nat.{ℕ, zero, suc}
+use lib.Dec.{eqb}
+use lib.Ieee.{Float}
+use lib.ListN.{length}
+use Rattle.framelaws.specs.Step.{Step, widthAfter}
+use Rattle.framelaws.specs.Step.Step.{rotation, promotion, projection, correction}
+use Rattle.framelaws.specs.Rows.{stepRow}
+use Rattle.runlaws.specs.Bytes.{byteAt, floatAt, pauliAt}
+use Rattle.runlaws.specs.Field.{Field, fieldAt}
+
+-- where the next field stands, and the width there
+pub record Cursor : Type 0 where
+  pub at : ℕ
+  pub width : ℕ
+
+-- a step and the cursor behind it, the end field and the cursor behind it, or a refusal with its place
+pub data Read : Type 0 where
+  stepRead : Step Float → Cursor → Read
+  endRead : Cursor → Read
+  refusedRead : ℕ → ℕ → Read
+
+-- whether a field has this tag and a body of this length
+abbrev pub isField : ℕ → ℕ → Field → Bool
+isField tag size f = eqb (f .tag) tag && eqb (length (f .body)) size
+
+-- the step of a field at width n, none where no step has its tag and length
+unfoldable pub decoded : ℕ → Field → Option (Step Float)
+decoded n f =
+    cond (isField 2 34 f) (some (rotation (pauliAt n (f .body)) (byteAt (f .body) 17) (floatAt (f .body) 18) (floatAt (f .body) 26)))
+    (cond (isField 3 16 f) (some (promotion (floatAt (f .body) 0) (floatAt (f .body) 8)))
+    (cond (isField 4 27 f) (some (projection (pauliAt n (f .body)) (byteAt (f .body) 17) (byteAt (f .body) 18) (floatAt (f .body) 19)))
+    (cond (isField 5 17 f) (some (correction (pauliAt n (f .body)))) none)))
+
+-- refused by the number of a row at the place, or read where that is 0
+unfoldable pub unless : ℕ → ℕ → Read → Read
+unless zero at r = r
+unless (suc row) at r = refusedRead (suc row) at
+
+-- a step of the field at c, the next field standing at `next`, if the number of its row is 0
+unfoldable pub judgedBy : ℕ → Cursor → ℕ → Step Float → Read
+judgedBy row c next t = unless row (c .at) (stepRead t (record { at = next; width = widthAfter (c .width) t }))
+
+-- none, a wrong tag or length, is 14
+unfoldable pub judged : ℕ → Cursor → ℕ → Option (Step Float) → Read
+judged limit c next none = refusedRead 14 (c .at)
+judged limit c next (some t) = judgedBy (stepRow limit (c .width) t) c next t
+
+-- a field, none where it is cut
+unfoldable pub readField : ℕ → Cursor → Option Field → Read
+readField limit c none = refusedRead 14 (c .at)
+readField limit c (some f) =
+    cond (isField 6 0 f) (endRead (record { at = f .next; width = c .width })) (judged limit c (f .next) (decoded (c .width) f))
+
+-- the field at a cursor of the run, under a limit on the width
+unfoldable pub readAt : ℕ → List ℕ → Cursor → Read
+readAt limit s c = readField limit c (fieldAt s (c .at))

@@ -1,0 +1,60 @@
+-- A whole run: its start width and its steps, or the first refusal with its place. Assumes nothing.
+use mathlib.Core.Bool.{cond, _&&_}
+use mathlib.Core.List.{List, [], _∷_}
+use mathlib.Core.Option.{Option, none, some}
+use Prim.Native.Nat.{ℕ, zero, suc}
+use lib.Dec.{leb, ltb}
+use lib.Ieee.{Float}
+use lib.ListN.{length}
+use Rattle.answers.specs.Answer.{Answer}
+use Rattle.answers.specs.Answer.Answer.{accepted, refused, refusedAt}
+use Rattle.framelaws.specs.Step.{Step}
+use Rattle.runlaws.specs.Bytes.{byteAt}
+use Rattle.runlaws.specs.Field.{Field, fieldAt}
+use Rattle.runlaws.specs.Reading.{Cursor, Read, isField, readAt}
+use Rattle.runlaws.specs.Reading.Read.{stepRead, endRead, refusedRead}
+
+pub record Run : Type 0 where
+  pub width : ℕ
+  pub steps : List (Step Float)
+
+-- the most bytes of a run, and the widest state of the service's runs
+abbrev pub mostBytes : ℕ
+mostBytes = 65536
+
+abbrev pub widestRun : ℕ
+widestRun = 12
+
+-- an accepted value, changed; a refusal as it was
+unfoldable pub mapped : {A B : Type 0} → (A → B) → Answer A → Answer B
+mapped f (accepted a) = accepted (f a)
+mapped f (refused n) = refused n
+mapped f (refusedAt n i) = refusedAt n i
+
+-- the end field stands last: bytes past it are refused at the first of them
+unfoldable pub ended : List ℕ → Cursor → Answer (List (Step Float))
+ended s c = cond (ltb (c .at) (length s)) (refusedAt 14 (c .at)) (accepted [])
+
+-- what the steps from a cursor on are, by what is read there and, behind a step, by the rest
+unfoldable pub follow : List ℕ → Read → (Cursor → Answer (List (Step Float))) → Answer (List (Step Float))
+follow s (stepRead t c) rest = mapped (λ ts. t ∷ ts) (rest c)
+follow s (endRead c) rest = ended s c
+follow s (refusedRead n at) rest = refusedAt n at
+
+-- The steps from a cursor on, up to the end field. A field has three bytes or more, so that the run's length is fields enough;
+-- a run that ends before its end field is refused at its length.
+unfoldable pub walk : ℕ → ℕ → List ℕ → Cursor → Answer (List (Step Float))
+walk limit zero s c = refusedAt 14 (c .at)
+walk limit (suc fuel) s c = follow s (readAt limit s c) (walk limit fuel s)
+
+-- the width that a field gives if it is a start field within the limit
+unfoldable pub startWidth : ℕ → Option Field → Option ℕ
+startWidth limit none = none
+startWidth limit (some f) = cond (isField 1 1 f && leb (byteAt (f .body) 0) limit) (some (byteAt (f .body) 0)) none
+
+unfoldable pub begun : ℕ → List ℕ → Option ℕ → Answer Run
+begun limit s none = refusedAt 14 0
+begun limit s (some n) = mapped (λ ts. record { width = n; steps = ts }) (walk limit (length s) s (record { at = 4; width = n }))
+
+unfoldable pub runOf : ℕ → List ℕ → Answer Run
+runOf limit s = cond (ltb mostBytes (length s)) (refusedAt 14 0) (begun limit s (startWidth limit (fieldAt s 0)))

@@ -1,0 +1,101 @@
+-- What a run that is read whole is known by, and when it is refused at its start. Assumes nothing.
+use mathlib.Core.Path.{_≡_, refl, subst}
+use mathlib.Core.Bool.{Bool, true, false, cond, _&&_}
+use mathlib.Core.List.{List}
+use mathlib.Core.Option.{Option, none, some}
+use Prim.Native.Nat.{ℕ, _≤_, _<_}
+use native.Mathlib.Omega.{arith}
+use lib.Dec.{leb, ltb}
+use lib.Ieee.{Float}
+use lib.ListN.{length}
+use borrow.Author.Tests.{ltb-false, leb-true, lt-ltb, le-ltb}
+use Rattle.answers.specs.Answer.Answer.{accepted, refusedAt}
+use Rattle.paulilaws.specs.Fitting.{both-left, both-right}
+use Rattle.framelaws.specs.Step.{Step}
+use Rattle.framelaws.specs.Allowed.{Allowed}
+use Rattle.runlaws.specs.Bytes.{byteAt}
+use Rattle.runlaws.specs.Field.{Field, bodyLength, fieldAt}
+use Rattle.runlaws.specs.Reading.{Cursor, isField}
+use Rattle.runlaws.specs.Run.{Run, mostBytes, mapped, walk, startWidth, begun, runOf}
+use Rattle.runlaws.specs.Fields.{by-test, field-whole, has-size}
+use Rattle.runlaws.specs.Mapped.{no-answer, mapped-accepted}
+use Rattle.runlaws.specs.Walk.{walk-allowed}
+
+-- a run that has a start field
+pub record StartRead (limit : ℕ) (s : List ℕ) (n : ℕ) : Type 0 where
+  pub size : bodyLength s 0 ≡ 1
+  pub begins : 4 ≤ length s
+  pub within : n ≤ limit
+
+module _ (limit : ℕ) (s : List ℕ) where
+  StartOr : Option ℕ → Type 0
+  StartOr none = Unit
+  StartOr (some n) = StartRead limit s n
+
+  start-field : (o : Option Field) → fieldAt s 0 ≡ o → StartOr (startWidth limit o)
+  unfolding StartOr startWidth
+  start-field none here = tt
+  start-field (some f) here =
+      let w = field-whole s 0 f here in
+      let first : ℕ = byteAt (f .body) 0 in
+      by-test StartOr (isField 1 1 f && leb first limit)
+      (λ h.
+      let size : length (f .body) ≡ 1 = has-size 0 f 1 1 (both-left (isField 1 1 f) (leb first limit) h) in
+      record {
+        size = omega (arith, w .size, size);
+        begins = omega (arith, w .inside, w .size, size);
+        within = leb-true first limit (both-right (isField 1 1 f) (leb first limit) h);
+      })
+      (λ h. tt)
+
+  pub start-read : (n : ℕ) → startWidth limit (fieldAt s 0) ≡ some n → StartRead limit s n
+  unfolding StartOr
+  start-read n e = subst StartOr e (start-field (fieldAt s 0) refl)
+
+pub record ReadRun (limit : ℕ) (s : List ℕ) (R : Run) : Type 0 where
+  pub short : length s ≤ mostBytes
+  pub start : startWidth limit (fieldAt s 0) ≡ some (R .width)
+  pub begins : 4 ≤ length s
+  pub width : R .width ≤ limit
+  pub walked : walk limit (length s) s (record { at = 4; width = R .width }) ≡ accepted (R .steps)
+  pub allowed : Allowed limit (R .width) (R .steps)
+
+module _ (limit : ℕ) (s : List ℕ) where
+  pub run-long : mostBytes < length s → runOf limit s ≡ refusedAt 14 0
+  unfolding runOf
+  run-long h = rw (lt-ltb mostBytes (length s) h)
+
+  module _ (short : length s ≤ mostBytes) where
+    pub run-unbegun : startWidth limit (fieldAt s 0) ≡ none → runOf limit s ≡ refusedAt 14 0
+    unfolding runOf begun
+    run-unbegun e = rw (le-ltb mostBytes (length s) short, e)
+
+    pub run-begun : (n : ℕ) → startWidth limit (fieldAt s 0) ≡ some n
+        → runOf limit s ≡ mapped (λ (ts : List (Step Float)). record { width = n; steps = ts }) (walk limit (length s) s (record { at = 4; width = n }))
+    unfolding runOf begun
+    run-begun n e = rw (le-ltb mostBytes (length s) short, e)
+
+module _ (limit : ℕ) (s : List ℕ) (R : Run) where
+  begun-allowed : length s ≤ mostBytes → (o : Option ℕ) → startWidth limit (fieldAt s 0) ≡ o → begun limit s o ≡ accepted R → ReadRun limit s R
+  unfolding begun
+  begun-allowed short none h e = absurd (no-answer e)
+  begun-allowed short (some n) h e =
+      let from : Cursor = record { at = 4; width = n } in
+      let m = mapped-accepted (λ (ts : List (Step Float)). record { width = n; steps = ts }) (walk limit (length s) s from) R e in
+      let b = start-read limit s n h in
+      rw (m .is) (record {
+        short = short;
+        start = h;
+        begins = b .begins;
+        width = b .within;
+        walked = m .was;
+        allowed = walk-allowed limit (length s) s from (m .value) (omega arith) (m .was);
+      })
+
+  pub run-allowed : runOf limit s ≡ accepted R → ReadRun limit s R
+  unfolding runOf
+  run-allowed e = go (ltb mostBytes (length s)) refl e
+    where
+      go : (q : Bool) → ltb mostBytes (length s) ≡ q → cond q (refusedAt 14 0) (begun limit s (startWidth limit (fieldAt s 0))) ≡ accepted R → ReadRun limit s R
+      go true h e = absurd (no-answer e)
+      go false h e = begun-allowed (ltb-false mostBytes (length s) h) (startWidth limit (fieldAt s 0)) refl e

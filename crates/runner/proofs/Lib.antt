@@ -1,0 +1,4 @@
+pub mod Taken
+pub mod Rooms
+pub mod Underway
+pub mod Outcomes

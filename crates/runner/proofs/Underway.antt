@@ -1,0 +1,118 @@
+-- What the loop over a run's steps keeps: the steps that are left do to the memory as it is what the whole run does to the memory as it was. Assumes nothing.
+use mathlib.Core.Path.{_≡_, sym, ap, ap₂, _∙_, subst}
+use mathlib.Core.List.{List, [], _∷_}
+use mathlib.Core.Logic.{⊎-elim}
+use mathlib.Core.Option.{none, some}
+use Prim.Native.Nat.{ℕ, _<_, _-_, _≤_}
+use native.Mathlib.Omega.{arith}
+use lib.Ieee.{Float}
+use lib.ListN.{length}
+use types.Run.{OneOf}
+use denote.Enum.Declared.{tagOf}
+use Rattle.answers.specs.Answer.Answer.{accepted}
+use Rattle.answers.specs.Row.{left-none}
+use Rattle.amplitudelaws.specs.Rows.{widestPromotion}
+use Rattle.framelaws.specs.Step.{Step}
+use Rattle.framelaws.specs.Survey.{survey}
+use Rattle.framelaws.specs.Memory.{Memory, stepped, ran}
+use Rattle.framelaws.specs.Kept.{SameSizes, ran-sizes}
+use Rattle.runlaws.specs.Field.{fieldAt}
+use Rattle.runlaws.specs.Reading.{Cursor, readAt}
+use Rattle.runlaws.specs.Reading.Read.{stepRead}
+use Rattle.runlaws.specs.Run.{startWidth}
+use Rattle.runlaws.specs.Calls.{onRun, byRow, surveyOf, running}
+use Rattle.runlaws.specs.Walk.{Left, left-outset, accepted-step, accepted-end, accepted-refused}
+use Rattle.runlaws.specs.Fields.{step-read, size-ge}
+use Rattle.runlaws.specs.WholeRun.{run-allowed}
+use Rattle.steps.proofs.Read.{the-type}
+use Rattle.steps.specs.declared.Read as declared
+use Rattle.steps.specs.declared.Read.the-variants as read
+use Rattle.steps.specs.Meant.{cursorOf, readTold}
+use Rattle.runner.specs.Ready.{Ready, ReadyRun}
+use Rattle.runner.proofs.Rooms.{Rooms, rooms-passed, rooms-before, rooms-behind, rooms-scratch, rooms-rest}
+
+-- m is the memory at the cursor c, m₀ the one at the start
+pub record Underway (limit : ℕ) (s : List ℕ) (m₀ : Memory) (c : Cursor) (m : Memory) : Type 0 where
+  pub steps : List (Step Float)
+  pub left : Left limit s c (accepted steps)
+  pub same : ran (c .width) steps m ≡ running limit s m₀ .lent
+  pub rooms : Rooms (survey (c .width) steps) m
+
+none-some : {n : ℕ} → none ≡ some n → ⊥
+none-some e = let z : _≡_ {A = ℕ} 0 1 = cc in omega arith
+
+same-some : {m n : ℕ} → some m ≡ some n → m ≡ n
+same-some e = cc
+
+module _ {limit : ℕ} {s : List ℕ} {m₀ : Memory} where
+  module _ (r : ReadyRun limit s m₀) where
+    lent-ran : running limit s m₀ .lent ≡ ran (r .run .width) (r .run .steps) m₀
+    unfolding running onRun byRow
+    lent-ran = rw (r .is) (left-none _ _ _ (r .row))
+
+    pub lent-sizes : SameSizes (running limit s m₀ .lent) m₀
+    lent-sizes = rw lent-ran (ran-sizes (r .run .width) (r .run .steps) m₀)
+
+    starts : startWidth limit (fieldAt s 0) ≡ some (r .run .width)
+    starts = run-allowed limit s (r .run) (r .is) .start
+
+    pub no-start : startWidth limit (fieldAt s 0) ≡ none → ⊥
+    no-start e = none-some (sym e ∙ starts)
+
+    pub underway-outset : (n : ℕ) → startWidth limit (fieldAt s 0) ≡ some n → Underway limit s m₀ (record { at = 4; width = n }) m₀
+    unfolding surveyOf
+    underway-outset n e =
+        let read = run-allowed limit s (r .run) (r .is) in
+        let width : n ≡ r .run .width = same-some (sym e ∙ starts) in
+        rw width (record {
+          steps = r .run .steps;
+          left = rw (← read .walked) (left-outset limit s (record { at = 4; width = r .run .width }) (read .begins));
+          same = sym lent-ran;
+          rooms = rooms-passed (surveyOf (r .run)) m₀ (r .row);
+        })
+
+  module _ {c : Cursor} {m : Memory} (u : Underway limit s m₀ c m) where
+    module _ (t : Step Float) (d : Cursor) (e : readAt limit s c ≡ stepRead t d) where
+      pub underway-ready : limit ≤ widestPromotion → Ready (c .width) t m
+      underway-ready narrow =
+          let read = step-read limit s c d t e in
+          let next = accepted-step (u .left) t d e in
+          let rooms = subst (λ (ts : List (Step Float)). Rooms (survey (c .width) ts) m) (next .by) (u .rooms) in
+          record {
+            limit = limit;
+            narrow = narrow;
+            placed = read .placed;
+            row = read .row;
+            before = rooms-before (c .width) t (next .after) m rooms;
+            behind = rooms-behind (c .width) t (next .after) m rooms;
+            scratch = rooms-scratch (c .width) t (next .after) m rooms;
+          }
+
+      pub underway-step : (m' : Memory) → m' ≡ stepped (c .width) t m → Underway limit s m₀ d m'
+      unfolding ran
+      underway-step m' done =
+          let read = step-read limit s c d t e in
+          let next = accepted-step (u .left) t d e in
+          let rooms = subst (λ (ts : List (Step Float)). Rooms (survey (c .width) ts) m) (next .by) (u .rooms) in
+          record {
+            steps = next .after;
+            left = next .left;
+            same =
+                ap₂ (λ (n : ℕ) (u : Memory). ran n (next .after) u) (read .width) done ∙ ap (λ (ts : List (Step Float)). ran (c .width) ts m) (sym (next .by)) ∙ u .same;
+            rooms = rooms-rest (c .width) t (next .after) m rooms (read .width) done;
+          }
+
+      pub underway-less : length s - d .at < length s - c .at
+      underway-less =
+          let read = step-read limit s c d t e in
+          omega (arith, read .next, read .inside, size-ge t)
+
+    none-left : u .steps ≡ [] → m ≡ running limit s m₀ .lent
+    unfolding ran
+    none-left e = ap (λ (ts : List (Step Float)). ran (c .width) ts m) (sym e) ∙ u .same
+
+    -- what is no step is the end: a run that was accepted has no refusal
+    pub underway-end : (r : declared.Read) → readTold r ≡ readAt limit s c → OneOf (1 ∷ 2 ∷ []) (tagOf the-type r) → m ≡ running limit s m₀ .lent
+    underway-end (read.Step t d) e k = absurd (⊎-elim (λ e. omega arith) (λ e. omega arith) k)
+    underway-end (read.End d) e k = none-left (accepted-end (u .left) (cursorOf d) (sym e))
+    underway-end (read.Refused n at) e k = absurd (accepted-refused (u .left) n at (sym e))

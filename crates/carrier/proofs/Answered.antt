@@ -1,54 +1,30 @@
 -- What carrying answers and leaves in the output, from what the check, the rows and the loop say. Assumes nothing.
 use mathlib.Core.Path.{_≡_, refl, sym, ap, _∙_}
-use mathlib.Core.Bool.{not}
 use mathlib.Core.List.{List, _++_}
 use mathlib.Core.Option.{none, some}
 use Prim.Native.Nat.{ℕ, _≤_}
 use native.Mathlib.Omega.{arith}
-use lib.Dec.{eqb, ltb, lit<}
 use lib.ListN.{length, take, drop, length-append}
 use lib.Seq.{take-length}
-use borrow.Author.Tests.{eqb-true, ltb-false, not-false}
-use Rattle.answers.specs.Answer.{Answer, valueOr}
+use Rattle.answers.specs.Answer.{valueOr}
 use Rattle.answers.specs.Answer.Answer.{accepted, refused, refusedAt}
-use Rattle.answers.specs.Row.{row, row-passed, refusing, passing}
-use Rattle.paulilaws.specs.Pauli.{Pauli, fits, mostQubits}
-use Rattle.paulilaws.specs.Fitting.{Fitting, fits-fitting}
+use Rattle.answers.specs.Row.{refusing, passing}
+use Rattle.paulilaws.specs.Pauli.{Pauli, mostQubits}
 use Rattle.framelaws.specs.Carrying.{carriedSteps, endPauli}
 use Rattle.framelaws.specs.Survey.{Survey}
 use Rattle.runlaws.specs.Field.{fieldAt}
 use Rattle.runlaws.specs.Flags.{flagged}
-use Rattle.runlaws.specs.Run.{Run, mapped, startWidth, runOf}
+use Rattle.runlaws.specs.Run.{startWidth, runOf}
 use Rattle.runlaws.specs.Calls.{onRun, byRow, surveyOf, checking, carryingRow, carriedRun, carrying}
-use Rattle.runlaws.specs.Mapped.{mapped-accepted}
+use Rattle.runlaws.specs.Mapped.{mapped-accepted, mapped-refused}
+use Rattle.runlaws.specs.Outcomes.{carrying-passed}
 use Rattle.runlaws.specs.WholeRun.{run-allowed}
 use Rattle.runlaws.specs.Flagged.{carried-append}
 use Rattle.carrier.specs.Ready.{runIn, Ready}
 
--- ---- the rows
-
--- what is known where none refuses
-pub rows-passed : (Q : Pauli) (width size room r : ℕ) → r ≡ carryingRow Q width size room → r ≡ 0 → Fitting Q × (Q .n ≡ width) × (size ≤ room)
-unfolding carryingRow
-rows-passed Q width size room r is e =
-    let sixteen = row (ltb room size) 16 0 in
-    let a = row-passed (not (fits Q)) 3 (row (not (eqb (Q .n) width)) 4 sixteen) (lit< tt) (sym is ∙ e) in
-    let b = row-passed (not (eqb (Q .n) width)) 4 sixteen (lit< tt) (a .1) in
-    let c = row-passed (ltb room size) 16 0 (lit< tt) (b .1) in
-    (fits-fitting Q (not-false (fits Q) (a .0)), eqb-true (Q .n) width (not-false (eqb (Q .n) width) (b .0)), ltb-false room size (c .0))
-
 -- ---- the check: it is the run's own answer
 
 module _ (limit : ℕ) (s : List ℕ) where
-  check-refused : (n at : ℕ) → refusedAt n at ≡ checking limit s → runOf limit s ≡ refusedAt n at
-  unfolding checking mapped
-  check-refused n at e = go (runOf limit s) e
-    where
-      go : (a : Answer Run) → refusedAt n at ≡ mapped surveyOf a → a ≡ refusedAt n at
-      go (accepted R) e = absurd (let z : _≡_ {A = ℕ} 0 1 = cc in omega arith)
-      go (refused m) e = absurd (let z : _≡_ {A = ℕ} 0 1 = cc in omega arith)
-      go (refusedAt m i) e = cc
-
   module _ {v : Survey} (checked : accepted v ≡ checking limit s) where
     accepts : runOf limit s ≡ accepted (runIn limit s)
     unfolding checking runIn valueOr
@@ -68,8 +44,8 @@ module _ (limit : ℕ) (s : List ℕ) where
 
 module _ (limit : ℕ) (s : List ℕ) (Q : Pauli) (out : List ℕ) where
   pub run-refused : (n at : ℕ) → refusedAt n at ≡ checking limit s → (refusedAt n at ≡ carrying limit s Q out .answer) × (out ≡ carrying limit s Q out .lent)
-  unfolding carrying onRun
-  run-refused n at e = rw (check-refused limit s n at e) (refl, refl)
+  unfolding carrying onRun checking
+  run-refused n at e = rw (mapped-refused surveyOf (runOf limit s) n at (sym e)) (refl, refl)
 
   -- of a run that is checked: its start width, and the row by it
   module _ {v : Survey} (checked : accepted v ≡ checking limit s) {width : ℕ} (start : some width ≡ startWidth limit (fieldAt s 0)) {r : ℕ}
@@ -93,7 +69,7 @@ module _ (limit : ℕ) (s : List ℕ) (Q : Pauli) (out : List ℕ) where
 
       pub ready : limit ≤ mostQubits → Ready limit s Q copy
       ready small =
-          let known = rows-passed Q width (length s) (length out) r is none in
+          let known = carrying-passed Q width (length s) (length out) (sym is ∙ none) in
           record {
             small = small;
             read = accepts limit s checked;

@@ -66,7 +66,7 @@ running limit s m = onRun (runOf limit s) m (λ R. byRow (memoryRow (surveyOf R)
 unfoldable pub carryingRow : Pauli → ℕ → ℕ → ℕ → ℕ
 carryingRow Q width size room = row (not (fits Q)) 3 (row (not (eqb (Q .n) width)) 4 (row (ltb room size) 16 0))
 
--- the run with the carried steps' signs and branches
+-- the run with the carried steps' signs and branches; their fields begin behind the start field's four bytes
 unfoldable pub carriedRun : Pauli → Run → List ℕ → List ℕ
 carriedRun Q R s = flagged 4 (carriedSteps Q (R .steps)) s
 

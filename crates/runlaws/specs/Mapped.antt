@@ -1,5 +1,5 @@
 -- Laws of an answer whose value is changed. Assumes nothing.
-use mathlib.Core.Path.{_≡_, refl}
+use mathlib.Core.Path.{_≡_, refl, sym}
 use Prim.Native.Nat.{ℕ}
 use native.Mathlib.Omega.{arith}
 use Rattle.answers.specs.Answer.{Answer}
@@ -21,6 +21,13 @@ module _ {A B : Type 0} (f : A → B) where
   mapped-accepted (accepted a) b e = record { value = a; was = refl; is = cc }
   mapped-accepted (refused n) b e = absurd (let z : _≡_ {A = ℕ} 0 1 = cc in omega arith)
   mapped-accepted (refusedAt n i) b e = absurd (no-answer e)
+
+-- and a refusal is one
+pub mapped-refused : {A B : Type 0} (f : A → B) (a : Answer A) (n i : ℕ) → mapped f a ≡ refusedAt n i → a ≡ refusedAt n i
+unfolding mapped
+mapped-refused f (accepted a) n i e = absurd (no-answer (sym e))
+mapped-refused f (refused m) n i e = absurd (let z : _≡_ {A = ℕ} 0 1 = cc in omega arith)
+mapped-refused f (refusedAt m j) n i e = cc
 
 pub mapped-mapped : {A B C : Type 0} (g : B → C) (f : A → B) (a : Answer A) → mapped g (mapped f a) ≡ mapped (λ x. g (f x)) a
 unfolding mapped

@@ -4,15 +4,15 @@ use mathlib.Core.Bool.{Bool, true, false, not, _&&_}
 use mathlib.Core.List.{List, [], _∷_, _++_}
 use Prim.Native.Nat.{ℕ, zero, suc, _≤_}
 use native.Mathlib.Omega.{arith}
-use lib.Dec.{lit<}
+use lib.Dec.{eqb, ltb, lit<}
 use lib.Ieee.{Float}
 use lib.ListN.{length, drop}
-use borrow.Author.Tests.{not-false}
+use borrow.Author.Tests.{eqb-true, ltb-false, not-false}
 use Rattle.answers.specs.Answer.{Answer}
 use Rattle.answers.specs.Answer.Answer.{accepted, refused, refusedAt}
 use Rattle.answers.specs.Row.{row, answered, left, accepted-row, answered-none, left-none, row-passed}
-use Rattle.paulilaws.specs.Pauli.{Pauli}
-use Rattle.paulilaws.specs.Fitting.{both-left, both-right}
+use Rattle.paulilaws.specs.Pauli.{Pauli, fits}
+use Rattle.paulilaws.specs.Fitting.{Fitting, fits-fitting, both-left, both-right}
 use Rattle.amplitudelaws.specs.Rows.{roomRow}
 use Rattle.amplitudelaws.specs.State.{room}
 use Rattle.framelaws.specs.Allowed.{Allowed}
@@ -112,6 +112,16 @@ ending-within limit s m E e =
     rw (known .value-is, survey-width (R .width) (R .steps)) (last-within limit (R .width) (R .steps) (read .width) (read .allowed))
 
 -- ---- carrying
+
+-- Q is a Pauli on the start qubits, and the output has room
+pub carrying-passed : (Q : Pauli) (width size room : ℕ) → carryingRow Q width size room ≡ 0 → Fitting Q × (Q .n ≡ width) × (size ≤ room)
+unfolding carryingRow
+carrying-passed Q width size room e =
+    let sixteen = row (ltb room size) 16 0 in
+    let a = row-passed (not (fits Q)) 3 (row (not (eqb (Q .n) width)) 4 sixteen) (lit< tt) e in
+    let b = row-passed (not (eqb (Q .n) width)) 4 sixteen (lit< tt) (a .1) in
+    let c = row-passed (ltb room size) 16 0 (lit< tt) (b .1) in
+    (fits-fitting Q (not-false (fits Q) (a .0)), eqb-true (Q .n) width (not-false (eqb (Q .n) width) (b .0)), ltb-false room size (c .0))
 
 module _ (limit : ℕ) (s : List ℕ) (Q : Pauli) (out : List ℕ) where
   abbrev carryRow : Run → ℕ

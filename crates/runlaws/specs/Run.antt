@@ -52,6 +52,7 @@ unfoldable pub startWidth : ℕ → Option Field → Option ℕ
 startWidth limit none = none
 startWidth limit (some f) = cond (isField 1 1 f && leb (byteAt (f .body) 0) limit) (some (byteAt (f .body) 0)) none
 
+-- the steps begin behind the start field's four bytes
 unfoldable pub begun : ℕ → List ℕ → Option ℕ → Answer Run
 begun limit s none = refusedAt 14 0
 begun limit s (some n) = mapped (λ ts. record { width = n; steps = ts }) (walk limit (length s) s (record { at = 4; width = n }))

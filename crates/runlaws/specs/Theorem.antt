@@ -1,23 +1,23 @@
 -- The frame theorem. A Pauli Q fired before a run, or the run carried past Q and the end Pauli fired behind it: the same last width, the same number of
 -- steps and, where every amplitude of the carried run is finite, the same number in every amplitude. Assumes nothing.
 use mathlib.Core.Path.{_≡_, sym, ap, _∙_, subst}
-use mathlib.Core.Bool.{true, not}
+use mathlib.Core.Bool.{true}
 use mathlib.Core.List.{List, _++_}
 use mathlib.Core.Logic.{_⊎_}
 use mathlib.Core.Option.{some}
 use Prim.Native.Nat.{ℕ, _^_, _≤_, _<_}
 use native.Mathlib.Nat.{le-trans}
 use native.Mathlib.Omega.{arith}
-use lib.Dec.{T, eqb, leb, ltb, lit<}
+use lib.Dec.{T, leb}
 use lib.Ieee.{Float}
 use lib.ListN.{length, take, drop}
 use lib.Seq.{take-at}
-use borrow.Author.Tests.{eqb-true, not-false, le-ltb}
+use borrow.Author.Tests.{le-ltb}
 use Rattle.answers.specs.Answer.Answer.{accepted}
-use Rattle.answers.specs.Row.{row, first, row-passed}
+use Rattle.answers.specs.Row.{row, first}
 use Rattle.floatlaws.specs.Same.{isZero, same-says}
-use Rattle.paulilaws.specs.Pauli.{Pauli, fits, mostQubits}
-use Rattle.paulilaws.specs.Fitting.{Fitting, fits-fitting, fitting-fits}
+use Rattle.paulilaws.specs.Pauli.{Pauli, mostQubits}
+use Rattle.paulilaws.specs.Fitting.{Fitting, fitting-fits}
 use Rattle.amplitudelaws.specs.Binary.{binary}
 use Rattle.amplitudelaws.specs.Correction.{corrected}
 use Rattle.amplitudelaws.specs.Rows.{correctionRow, widthRow, roomRow, widestKernel}
@@ -36,7 +36,7 @@ use Rattle.framelaws.specs.Surveyed.{survey-width, survey-greatest, survey-grea
 use Rattle.runlaws.specs.Field.{fieldAt}
 use Rattle.runlaws.specs.Run.{Run, runOf, startWidth}
 use Rattle.runlaws.specs.Calls.{Ending, endingOf, surveyOf, scratchRoom, memoryRow, running, carryingRow, carriedRun, carrying}
-use Rattle.runlaws.specs.Outcomes.{room-both, running-done, running-answers, carrying-done}
+use Rattle.runlaws.specs.Outcomes.{room-both, running-done, running-answers, carrying-passed, carrying-done}
 use Rattle.runlaws.specs.Reread.{carried-length, reread}
 use Rattle.runlaws.specs.WholeRun.{run-allowed}
 
@@ -79,19 +79,10 @@ room-row : (v : Survey) (m : Memory) → room (v .greatest) (m .state) ≡ true 
 unfolding memoryRow roomRow row
 room-row v m a b = rw (a, b)
 
--- Q is a Pauli on the start qubits
-on-start : (Q : Pauli) (width size room : ℕ) → carryingRow Q width size room ≡ 0 → (fits Q ≡ true) × (Q .n ≡ width)
-unfolding carryingRow
-on-start Q width size room e =
-    let sixteen = row (ltb room size) 16 0 in
-    let three = row-passed (not (fits Q)) 3 (row (not (eqb (Q .n) width)) 4 sixteen) (lit< tt) e in
-    let four = row-passed (not (eqb (Q .n) width)) 4 sixteen (lit< tt) (three .1) in
-    (not-false (fits Q) (three .0), eqb-true (Q .n) width (not-false (eqb (Q .n) width) (four .0)))
-
 -- no row refuses to fire a Pauli that has its room
-may-fire : (P : Pauli) (S : State) → fits P ≡ true → P .n ≤ widestKernel → room (P .n) S ≡ true → correctionRow P S ≡ 0
+may-fire : (P : Pauli) (S : State) → Fitting P → P .n ≤ widestKernel → room (P .n) S ≡ true → correctionRow P S ≡ 0
 unfolding correctionRow widthRow roomRow row first
-may-fire P S f h r = rw (f, le-ltb widestKernel (P .n) h, r)
+may-fire P S f h r = rw (fitting-fits P f, le-ltb widestKernel (P .n) h, r)
 
 module _ (limit : ℕ) (s out : List ℕ) (Q end : Pauli) (m u : Memory) (E : Ending) (narrow : limit ≤ widestKernel) where
   -- the carried run, as the call leaves it in the output
@@ -99,7 +90,7 @@ module _ (limit : ℕ) (s out : List ℕ) (Q end : Pauli) (m u : Memory) (E : En
   sent = take (length s) (carrying limit s Q out .lent)
 
   module _ (R : Run) (read : runOf limit s ≡ accepted R) (here : memoryRow (surveyOf R) m ≡ 0) (there : memoryRow (surveyOf R) u ≡ 0)
-      (pauli : fits Q ≡ true) (width : Q .n ≡ R .width) (ending : E ≡ endingOf (surveyOf R)) (is-end : end ≡ endPauli Q (R .steps)) (is-sent : sent ≡ carriedRun Q R s)
+      (fitting : Fitting Q) (width : Q .n ≡ R .width) (ending : E ≡ endingOf (surveyOf R)) (is-end : end ≡ endPauli Q (R .steps)) (is-sent : sent ≡ carriedRun Q R s)
       (agree : Agreeing (Q .n) (m .state) (u .state)) where
     -- the run that the carried bytes are read as
     abbrev carriedOf : Run
@@ -141,7 +132,6 @@ module _ (limit : ℕ) (s out : List ℕ) (Q end : Pauli) (m u : Memory) (E : En
     assembled =
         let run = run-allowed limit s R read in
         let most : limit ≤ mostQubits = le-trans narrow (lib.Dec.leb→le widestKernel mostQubits tt) in
-        let fitting : Fitting Q = fits-fitting Q pauli in
         let g : ℕ = surveyOf R .greatest in
         let roomM : room g (m .state) ≡ true = room-both (surveyOf R) m here .0 in
         let roomU : room g (u .state) ≡ true = room-both (surveyOf R) u there .0 in
@@ -150,11 +140,11 @@ module _ (limit : ℕ) (s out : List ℕ) (Q end : Pauli) (m u : Memory) (E : En
         let far : last ≤ g = le-trans (survey-greatest-last (R .width) (R .steps)) greatest in
         record {
           start = run .start ∙ ap some (sym width);
-          before = may-fire Q (m .state) pauli (rw width (le-trans (run .width) narrow)) (rw width (room-under (R .width) g (m .state) wide roomM));
+          before = may-fire Q (m .state) fitting (rw width (le-trans (run .width) narrow)) (rw width (room-under (R .width) g (m .state) wide roomM));
           plain = fired-runs .0;
           carried = sent-runs .0;
           behind = rw (sent-runs .1, is-end)
-              (may-fire (endPauli Q (R .steps)) (ran (R .width) (carriedSteps Q (R .steps)) u .state) (fitting-fits _ (final .fitting)) (rw (final .width) (le-trans (final .within) narrow))
+              (may-fire (endPauli Q (R .steps)) (ran (R .width) (carriedSteps Q (R .steps)) u .state) (final .fitting) (rw (final .width) (le-trans (final .within) narrow))
               (rw (final .width)
               (room-under last g _ far (room-kept g (ran-sizes (R .width) (carriedSteps Q (R .steps)) u .state) roomU))));
           same = λ finite b h.
@@ -174,7 +164,7 @@ module _ (limit : ℕ) (s out : List ℕ) (Q end : Pauli) (m u : Memory) (E : En
       let R : Run = one .run in
       let again : two .run ≡ R = accepted-same (sym (two .was) ∙ one .was) in
       let third : three .run ≡ R = accepted-same (sym (three .was) ∙ one .was) in
-      let pauli = on-start Q (R .width) (length s) (length out) (subst (λ (r : Run). carryingRow Q (r .width) (length s) (length out) ≡ 0) third (three .passed)) in
+      let pauli = carrying-passed Q (R .width) (length s) (length out) (subst (λ (r : Run). carryingRow Q (r .width) (length s) (length out) ≡ 0) third (three .passed)) in
       assembled R (one .was) (one .passed) (subst (λ (r : Run). memoryRow (surveyOf r) u ≡ 0) again (two .passed)) (pauli .0) (pauli .1) (one .value-is)
       (three .value-is ∙ ap (λ (r : Run). endPauli Q (r .steps)) third)
       (ap (take (length s)) (three .lent-is ∙ ap (λ (r : Run). carriedRun Q r s ++ drop (length s) out) third)

@@ -9,9 +9,9 @@ use Rattle.answers.specs.Row.{answered-none, refusing}
 use Rattle.amplitudelaws.specs.Rows.{widestPromotion}
 use Rattle.framelaws.specs.Survey.{Survey}
 use Rattle.framelaws.specs.Memory.{Memory, ran}
-use Rattle.runlaws.specs.Run.{Run, mapped, runOf}
-use Rattle.runlaws.specs.Calls.{Outcome, Ending, endingOf, onRun, byRow, surveyOf, checking, memoryRow, running}
-use Rattle.runlaws.specs.Mapped.{From, mapped-accepted}
+use Rattle.runlaws.specs.Run.{runOf}
+use Rattle.runlaws.specs.Calls.{Ending, endingOf, onRun, byRow, surveyOf, checking, memoryRow, running}
+use Rattle.runlaws.specs.Mapped.{From, mapped-accepted, mapped-refused}
 use Rattle.runner.specs.Ready.{ReadyRun}
 
 module _ (limit : ℕ) (s : List ℕ) (m : Memory) where
@@ -20,13 +20,8 @@ module _ (limit : ℕ) (s : List ℕ) (m : Memory) where
   Runs a u = (a ≡ running limit s m .answer) × (u ≡ running limit s m .lent)
 
   pub runs-refused : (n at : ℕ) → checking limit s ≡ refusedAt n at → Runs (refusedAt n at) m
-  unfolding checking mapped running onRun
-  runs-refused n at e = go (runOf limit s) _ e
-    where
-      go : (a : Answer Run) (f : Run → Outcome Ending Memory) → mapped surveyOf a ≡ refusedAt n at → (refusedAt n at ≡ onRun a m f .answer) × (m ≡ onRun a m f .lent)
-      go (accepted R) f e = absurd (let z : _≡_ {A = ℕ} 0 1 = cc in omega arith)
-      go (refused k) f e = absurd (let z : _≡_ {A = ℕ} 0 1 = cc in omega arith)
-      go (refusedAt k i) f e = (cc, refl)
+  unfolding checking running onRun
+  runs-refused n at e = rw (mapped-refused surveyOf (runOf limit s) n at e) (refl, refl)
 
   module _ (v : Survey) (e : checking limit s ≡ accepted v) where
     checked : From surveyOf (runOf limit s) v

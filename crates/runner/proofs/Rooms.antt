@@ -1,17 +1,15 @@
 -- Room for a list of steps is room for its first and, behind it, for the rest. Assumes nothing.
 use mathlib.Core.Path.{_≡_, refl}
-use mathlib.Core.Bool.{true, not, _&&_}
+use mathlib.Core.Bool.{true}
 use mathlib.Core.List.{List, [], _∷_}
 use Prim.Native.Nat.{ℕ, _≤_, max}
 use native.Mathlib.Nat.{le-refl, le-trans, le-max-left, le-max-right}
 use native.Mathlib.Omega.{arith}
-use lib.Dec.{leb, lit<}
+use lib.Dec.{leb}
 use lib.Ieee.{Float}
 use lib.ListN.{length}
-use borrow.Author.Tests.{leb-true, le-leb, not-false}
-use Rattle.answers.specs.Row.{row-passed}
+use borrow.Author.Tests.{leb-true, le-leb}
 use Rattle.paulilaws.specs.Fitting.{both-left, both-right}
-use Rattle.amplitudelaws.specs.Rows.{roomRow}
 use Rattle.amplitudelaws.specs.State.{State, room}
 use Rattle.framelaws.specs.Step.{Step, widthAfter}
 use Rattle.framelaws.specs.Survey.{Survey, mixedAmplitudes, surveyed, surveyFrom, outset, survey}
@@ -19,18 +17,14 @@ use Rattle.framelaws.specs.Surveyed.{survey-greatest, survey-greatest-rest}
 use Rattle.framelaws.specs.Memory.{Memory, stepped}
 use Rattle.framelaws.specs.Kept.{SameLengths, stepped-sizes, room-kept, room-under}
 use Rattle.runlaws.specs.Calls.{scratchRoom, memoryRow}
+use Rattle.runlaws.specs.Outcomes.{room-both}
 
 pub record Rooms (v : Survey) (m : Memory) : Type 0 where
   pub state : room (v .greatest) (m .state) ≡ true
   pub scratch : scratchRoom (v .scratch) (m .scratch) ≡ true
 
 pub rooms-passed : (v : Survey) (m : Memory) → memoryRow v m ≡ 0 → Rooms v m
-unfolding memoryRow roomRow
-rooms-passed v m e =
-    let states = room (v .greatest) (m .state) in
-    let mixtures = scratchRoom (v .scratch) (m .scratch) in
-    let enough = not-false (states && mixtures) (row-passed (not (states && mixtures)) 13 0 (lit< tt) e .0) in
-    record { state = both-left states mixtures enough; scratch = both-right states mixtures enough }
+rooms-passed v m e = let both = room-both v m e in record { state = both .0; scratch = both .1 }
 
 -- ---- the scratch
 

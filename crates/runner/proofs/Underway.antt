@@ -10,7 +10,6 @@ use lib.ListN.{length}
 use types.Run.{OneOf}
 use denote.Enum.Declared.{tagOf}
 use Rattle.answers.specs.Answer.Answer.{accepted}
-use Rattle.answers.specs.Row.{left-none}
 use Rattle.amplitudelaws.specs.Rows.{widestPromotion}
 use Rattle.framelaws.specs.Step.{Step}
 use Rattle.framelaws.specs.Survey.{survey}
@@ -20,7 +19,8 @@ use Rattle.runlaws.specs.Field.{fieldAt}
 use Rattle.runlaws.specs.Reading.{Cursor, readAt}
 use Rattle.runlaws.specs.Reading.Read.{stepRead}
 use Rattle.runlaws.specs.Run.{startWidth}
-use Rattle.runlaws.specs.Calls.{onRun, byRow, surveyOf, running}
+use Rattle.runlaws.specs.Calls.{surveyOf, running}
+use Rattle.runlaws.specs.Outcomes.{running-answers}
 use Rattle.runlaws.specs.Walk.{Left, left-outset, accepted-step, accepted-end, accepted-refused}
 use Rattle.runlaws.specs.Fields.{step-read, size-ge}
 use Rattle.runlaws.specs.WholeRun.{run-allowed}
@@ -47,8 +47,7 @@ same-some e = cc
 module _ {limit : ℕ} {s : List ℕ} {m₀ : Memory} where
   module _ (r : ReadyRun limit s m₀) where
     lent-ran : running limit s m₀ .lent ≡ ran (r .run .width) (r .run .steps) m₀
-    unfolding running onRun byRow
-    lent-ran = rw (r .is) (left-none _ _ _ (r .row))
+    lent-ran = running-answers limit s m₀ (r .run) (r .is) (r .row) .1
 
     pub lent-sizes : SameSizes (running limit s m₀ .lent) m₀
     lent-sizes = rw lent-ran (ran-sizes (r .run .width) (r .run .steps) m₀)

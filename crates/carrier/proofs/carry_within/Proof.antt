@@ -1,9 +1,10 @@
-use mathlib.Core.Path.{sym, ap, _∙_}
+use mathlib.Core.Path.{_≡_, sym, ap, _∙_}
 use native.Mathlib.Omega.{arith}
 use Rattle.activepauli.specs.Active.{activeOf}
 use Rattle.reader.specs.Told.{startTold}
 use Rattle.checker.specs.Told.{checkTold}
-use Rattle.carrier.proofs.Answered.{unstarted, run-refused, row-refused, rows-passed, ready, done}
+use Rattle.carrier.proofs.Answered.{unstarted, run-refused, row-refused, ready, done}
+use Rattle.runlaws.specs.Outcomes.{carrying-passed}
 use borrow.Author.Needs.{needs}
 use Rattle.carrier.proofs.carry_within.Statement.{statement}
 use Rattle.carrier.proofs.carry_within.Tie as tie
@@ -57,7 +58,9 @@ returns-3 c =
     (ap startTold (sym (width .width .given .1)) ∙ started .start .ensures) (c .before .carrying-row .ensures) (λ none. omega (arith, c .if1 .taken))
 
 copy-requires : tie.Need-copy-requires
-copy-requires c κs = rows-passed _ _ _ _ _ (c .before .before .carrying-row .ensures) (omega (arith, c .before .if1 .left)) .2
+copy-requires c κs =
+    let none : c .before .before .carrying-row .result ≡ 0 = omega (arith, c .before .if1 .left) in
+    carrying-passed _ _ _ _ (sym (c .before .before .carrying-row .ensures) ∙ none) .2
 
 carry-steps-requires : tie.Need-carry-steps-requires
 carry-steps-requires c κs =

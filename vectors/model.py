@@ -401,5 +401,6 @@ def answer(line):
     return outcome
 
 
-for line in sys.stdin:
-    print(answer(line.rstrip("\n")))
+if __name__ == "__main__":
+    for line in sys.stdin:
+        print(answer(line.rstrip("\n")))

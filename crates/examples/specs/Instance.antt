@@ -1,11 +1,12 @@
 -- The frame theorem's hypotheses can be met: one closed run through every kind of step, carried past Y, on two sets of buffers that differ in all that
 -- plays no part. Assumes nothing.
 use mathlib.Core.Path.{_≡_, refl, sym, _∙_, subst}
+use mathlib.Core.Bool.{not}
 use mathlib.Core.List.{List, [], _∷_}
 use Prim.Native.Nat.{ℕ, zero, suc, _^_, _<_}
 use native.Mathlib.Omega.{arith}
 use lib.Count.{ones, onesIn}
-use lib.Dec.{lit≤}
+use lib.Dec.{T, lit≤}
 use lib.Ieee.{Float, ofBits, neg, add, sub, mul, le}
 use lib.ListN.{length, take}
 use Rattle.answers.specs.Answer.Answer.{accepted}
@@ -14,6 +15,7 @@ use Rattle.bitlaws.specs.Digit.{digit}
 use Rattle.bitlaws.specs.Opening.{openBit, dropBit}
 use Rattle.bitlaws.specs.Parity.{overlap, parity}
 use Rattle.bitlaws.specs.Source.{source}
+use Rattle.floatlaws.specs.Same.{isZero}
 use Rattle.paulilaws.specs.Pauli.{Pauli, product, anti, fits, hermitian, coefficient, ys}
 use Rattle.paulilaws.specs.Frame.{raised, dropped}
 use Rattle.statelaws.specs.Over.{over}
@@ -33,7 +35,7 @@ use Rattle.framelaws.specs.Step.Step.{rotation, promotion, projection, correcti
 use Rattle.framelaws.specs.Rows.{stepRow, rotationStepRow, promotionStepRow, projectionStepRow}
 use Rattle.framelaws.specs.Carrying.{flipped, deciding, meets, absorbed, widened, carriedStep, passed, carriedSteps, endPauli}
 use Rattle.framelaws.specs.Survey.{mixedAmplitudes, surveyed, surveyFrom, survey}
-use Rattle.framelaws.specs.Memory.{Memory, memoryOf, stepped}
+use Rattle.framelaws.specs.Memory.{Memory, memoryOf, stepped, ran}
 use Rattle.runlaws.specs.Bytes.{number, floatAt, pauliAt}
 use Rattle.runlaws.specs.Field.{bodyLength, whole, fieldAt}
 use Rattle.runlaws.specs.Reading.{decoded, unless, judgedBy, judged, readField, readAt}
@@ -170,3 +172,8 @@ met = subst (λ (t : List ℕ). Frame widestRun run t Y end here there ending) s
 -- the same number in both parts of both amplitudes
 numbers : (b : ℕ) → b < 2 ^ 1 → SameNumber (point (running widestRun run (fired Y here) .lent .state) b .re) (point (leaves.correction end (running widestRun carried there .lent .state)) b .re) × SameNumber (point (running widestRun run (fired Y here) .lent .state) b .im) (point (leaves.correction end (running widestRun carried there .lent .state)) b .im)
 numbers b h = met .same finite-run b h
+
+-- and not all of them are zeros
+alive : T (not (isZero (point (running widestRun run (fired Y here) .lent .state) 0 .im)))
+unfolding running onRun byRow memoryRow surveyOf survey surveyFrom surveyed mixedAmplitudes scratchRoom room roomRow runOf begun startWidth mapped walk follow ended readAt readField judged judgedBy unless decoded fieldAt whole bodyLength number floatAt pauliAt fits hermitian coefficient ys widthAfter stepRow rotationStepRow promotionStepRow projectionStepRow rotationKernelRow measurementRow hermitianRow widthRow unitRow pivotRow pivotMask inUnit row first answered left le neg ofBits digit overlap parity ones onesIn stepped leaves.rotation leaves.promotion leaves.projection leaves.correction leaves.scratchAfter leaves.scratchBy written point over rotated rotatedBy rotatedAlone rotatedWith rotationCoefficient promoted raisedQubit projected remaining remainingBy projectionCoefficient minus source corrected quarters power times conjugate direction negated scale scaled mixed openBit add sub mul ran
+alive = tt

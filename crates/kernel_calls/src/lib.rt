@@ -2,8 +2,8 @@
 // one, and its whole answer is written as a line, with every lent buffer as it is after the call. The
 // calls are listed in read::call; `#` is a comment.
 mod ask;
-mod read;
-mod write;
+pub mod read;
+pub mod write;
 
 use libc::STDOUT_FILENO;
 use pauli_calls::show;

@@ -8,13 +8,13 @@ ghost use Prim.Native.Nat.{_≤_};
 ghost use lib.ListN.{length};
 
 // What a text reads as.
-enum Parsed {
+pub enum Parsed {
     Value(u64),
     Nothing,
 }
 
 // A buffer that was read: whether it could be, how many floats it has, and where what follows begins.
-pub(crate) struct Part {
+pub struct Part {
     pub is_read: bool,
     pub count: usize,
     pub next: usize,
@@ -97,7 +97,7 @@ pub(crate) fn arity(call: u8, words: [u64; 12]) -> usize {
 }
 
 // A text without the space that it may end in.
-pub(crate) fn trimmed(text: &[u8]) -> &[u8] {
+pub fn trimmed(text: &[u8]) -> &[u8] {
     if text.len() == 0 {
         return text;
     }
@@ -109,7 +109,7 @@ pub(crate) fn trimmed(text: &[u8]) -> &[u8] {
 }
 
 // A number's text; one of more than 64 bits goes round.
-fn number(text: &[u8]) -> Parsed {
+pub fn number(text: &[u8]) -> Parsed {
     if text.len() == 0 {
         return Parsed::Nothing;
     }
@@ -147,7 +147,7 @@ fn joined(value: u64, digit: u64, radix: u64) -> u64 {
 
 // Reads the words of a call, and answers how many there are: usize::MAX where something else stands
 // there, or more than twelve.
-pub(crate) fn words(text: &[u8], words: &mut [u64; 12]) -> usize {
+pub fn words(text: &[u8], words: &mut [u64; 12]) -> usize {
     let mut count = 0;
     let mut at = 0;
     while at < text.len() {
@@ -167,7 +167,7 @@ pub(crate) fn words(text: &[u8], words: &mut [u64; 12]) -> usize {
 }
 
 // Reads the buffer that the bar at the start of a text begins, up to the next bar or the end.
-pub(crate) fn floats(text: &[u8], out: &mut [f64]) -> Part
+pub fn floats(text: &[u8], out: &mut [f64]) -> Part
     ensures { λ r. ⌜ (r .count ≤ length (now (out .exit))) × (r .next ≤ length (now (text .entry))) ⌝ }
 {
     let unread = Part {
@@ -222,6 +222,11 @@ pub(crate) fn pauli(words: [u64; 12], k: usize) -> ActivePauli
         z: words[k + 3],
         phase: form::phase(words[k + 1]),
     }
+}
+
+// The Pauli in the first four words.
+pub fn first_pauli(words: [u64; 12]) -> ActivePauli {
+    pauli(words, 0)
 }
 
 // The Pauli in the first ten words, with four words a mask.

@@ -17,7 +17,7 @@ pub(crate) fn done() {
     io::write_all(STDOUT_FILENO, b"done");
 }
 
-fn number(n: u64) {
+pub fn number(n: u64) {
     show::byte(b' ');
     show::number(n);
 }
@@ -28,7 +28,7 @@ fn mask(word: u64) {
 }
 
 // Any NaN is written as the same.
-pub(crate) fn float(x: f64) {
+pub fn float(x: f64) {
     if x != x {
         io::write_all(STDOUT_FILENO, b"7ff8000000000000");
         return;
@@ -36,7 +36,7 @@ pub(crate) fn float(x: f64) {
     io::print_hex(STDOUT_FILENO, f64::to_bits(x), 16);
 }
 
-pub(crate) fn floats(buffer: &[f64]) {
+pub fn floats(buffer: &[f64]) {
     io::write_all(STDOUT_FILENO, b" |");
     let mut i = 0;
     while i < buffer.len() {
@@ -46,7 +46,7 @@ pub(crate) fn floats(buffer: &[f64]) {
     }
 }
 
-fn pauli(pauli: ActivePauli) {
+pub fn pauli(pauli: ActivePauli) {
     number(pauli.nqubits as u64);
     number(pauli.phase as u64);
     mask(pauli.x);

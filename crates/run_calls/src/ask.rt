@@ -1,0 +1,98 @@
+// The calls, by what they are lent.
+use crate::both;
+use crate::write;
+use activepauli::ActivePauli;
+use kernel_calls::read;
+use pauli_calls::form;
+use pauli_calls::show;
+use steps::Cursor;
+ghost use Prim.Native.Nat.{_≤_};
+
+pub(crate) fn call(call: u8, run: &[u8], words: [u64; 12], rest: &[u8]) {
+    match call {
+        b'd' => write::field(run, form::index(words[0])),
+        b't' => write::start(reader::start(run, form::index(words[0]))),
+        b'p' => step(run, words),
+        b'k' => write::check(checker::check_run(run)),
+        b's' => cuts(run),
+        b'y' => carry(run, read::first_pauli(words), form::index(words[4])),
+        _ => with_re(call, run, words, rest),
+    }
+}
+
+fn step(run: &[u8], words: [u64; 12]) {
+    let cursor = Cursor {
+        at: form::index(words[0]),
+        width: form::index(words[1]),
+    };
+    write::read(reader::read(run, cursor, form::index(words[2])));
+}
+
+// The check of the run cut at each byte, a comma after each.
+fn cuts(run: &[u8]) {
+    let mut cut = 0;
+    while cut < run.len() {
+        write::check(checker::check_run(&run[0..cut]));
+        show::byte(b',');
+        cut += 1;
+    }
+}
+
+fn carry(run: &[u8], pauli: ActivePauli, size: usize) {
+    if 66000 < size {
+        show::unread();
+        return;
+    }
+    let mut space = crate::room(0xee);
+    carry_to(run, pauli, &mut space[0..size]);
+}
+
+fn carry_to(run: &[u8], pauli: ActivePauli, out: &mut [u8]) {
+    if write::carried(carrier::carry_run(run, pauli, out)) {
+        write::output(run, out);
+    } else {
+        write::output(&run[0..0], out);
+    }
+}
+
+// Running and comparing are lent re and im. A buffer that cannot be read is taken for empty.
+fn with_re(call: u8, run: &[u8], words: [u64; 12], text: &[u8]) {
+    let mut re = [0.0; 160];
+    let part = read::floats(text, &mut re);
+    let n = part.count;
+    let next = part.next;
+    with_im(call, run, words, &text[next..], &mut re[0..n]);
+}
+
+fn with_im(call: u8, run: &[u8], words: [u64; 12], text: &[u8], re: &mut [f64]) {
+    let mut im = [0.0; 160];
+    let part = read::floats(text, &mut im);
+    let n = part.count;
+    if call == b'n' {
+        with_scratch(run, words, re, &mut im[0..n]);
+    } else {
+        both::carried(run, read::first_pauli(words), re, &im[0..n]);
+    }
+}
+
+// Running is lent two scratch buffers too, of the lengths that the words say.
+fn with_scratch(run: &[u8], words: [u64; 12], re: &mut [f64], im: &mut [f64]) {
+    let mut scratch_re = [7.0; 160];
+    let mut scratch_im = [7.5; 160];
+    let m = capped(words[0]);
+    let n = capped(words[1]);
+    ran(run, re, im, &mut scratch_re[0..m], &mut scratch_im[0..n]);
+}
+
+fn capped(word: u64) -> usize
+    ensures { λ r. ⌜ r ≤ 160 ⌝ }
+{
+    let n = form::index(word);
+    if n < 160 { n } else { 160 }
+}
+
+fn ran(run: &[u8], re: &mut [f64], im: &mut [f64], scratch_re: &mut [f64], scratch_im: &mut [f64]) {
+    write::ran(runner::run_contiguous(run, re, im, scratch_re, scratch_im));
+    write::state(re, im);
+    write::state(scratch_re, scratch_im);
+}

@@ -1,0 +1,1142 @@
+#!/usr/bin/env python3
+"""A second opinion on the calls on runs, and the lines of the programs that test them.
+
+    runs.py answers < stdin > stdout     answers to calls, a line each
+    runs.py write CRATES                 stdin and stdout of CRATES/run_limits and CRATES/frame_replay
+    runs.py fuzz PROGRAM SEED COUNT      COUNT random calls asked of PROGRAM (target/bin/run_limits) as well:
+                                         the first line that differs, or how many answers of each kind agree
+
+Written from the scope's text alone (document 01), which the comments quote; it
+shares nothing with the Rattle or the Rust. The kernels' steps are those of
+model.py.
+
+A call is its name, a run, numbers (masks after 0x), then the lent buffers as in
+model.py, a bar before each. A run is hexadecimal digits in pieces with commas
+between; `3*` before a piece stands for three of it.
+
+    field RUN at                    the field there: tag, where the next begins, body; or `cut` and no body
+    start RUN limit                 the first field's width, or `none`
+    step RUN at width limit         the step read there and the cursor behind it, or `end`
+    check RUN                       last width, steps, greatest width, amplitudes that the scratch must hold
+    cuts RUN                        the check of the run cut at each byte
+    run RUN m n | re | im           the last width and the steps done, all buffers; the scratch has m entries 7 and n
+                                    entries 7.5
+    carry RUN width k x z length    the end Pauli, where and how the output differs from the run, and whether what lies
+                                    past the run is kept (on a refusal, all); it is lent as so many bytes 0xee
+    both RUN width k x z | re | im  demand 3: for each basis the amplitude of (Pauli, run) and of (carried run,
+                                    end Pauli), then `same`, `nan` (alike but for NaNs on both sides) or `differ`
+
+`refused` and the number, `at` and the offset where it has one, is a refusal.
+"""
+
+import random
+import struct
+import subprocess
+import sys
+
+import model
+from model import Pauli, Refused, number, parity, refuse, shown
+
+WIDEST = 12
+LONGEST = 65536
+FILLED = 0xEE
+ROOM = 160  # Floats that a lent buffer may have.
+
+
+class RefusedAt(Exception):
+    """A refusal with its place: the number, the offset of the tag."""
+
+
+# ------------------------------------------------------------------- reading
+
+
+def field(run, at):
+    """One-byte tag, two-byte body length, body, little-endian; None where it is cut."""
+    if len(run) < at + 3:
+        return None
+    tag, size = struct.unpack_from("<BH", run, at)
+    behind = at + 3 + size
+    return None if len(run) < behind else (tag, run[at + 3 : behind], behind)
+
+
+def start(run, limit):
+    """Tag 1, length 1, n in 0..12; None where the run begins with something else."""
+    found = field(run, 0)
+    if found and found[0] == 1 and len(found[1]) == 1 and found[1][0] <= limit:
+        return found[1][0]
+    return None
+
+
+def step_of(tag, body, width, limit):
+    """The step that a field of the right length is, and the width behind it."""
+    if tag == 3:
+        c, q = struct.unpack("<dd", body)
+        model.check_units(c, q)
+        refuse(15, width >= limit)
+        return ("promotion", c, q), width + 1
+    # A step's Pauli is 17 bytes: k, x, z; its width is the current one.
+    pauli = Pauli(width, *struct.unpack_from("<BQQ", body))
+    if tag == 5:
+        model.check_pauli(pauli, 61)
+        return ("correction", pauli), width
+    model.check_hermitian(pauli, 61)
+    if tag == 2:
+        sign, c, s = struct.unpack("<Bdd", body[17:])
+        model.check_units(c, s)
+        refuse(14, sign > 1)
+        return ("rotation", pauli, sign, c, s), width
+    pivot, branch, invnorm = struct.unpack("<BBd", body[17:])
+    refuse(8, not abs(invnorm) < float("inf"))
+    model.check_pivot(pauli, pivot)
+    refuse(14, branch > 1)
+    return ("projection", pauli, pivot, branch, invnorm), width - 1
+
+
+LENGTHS = {2: 34, 3: 16, 4: 27, 5: 17}
+
+
+def read(run, at, width, limit):
+    """The step at `at` and the cursor behind it; None for a step at the end field."""
+    found = field(run, at)
+    if found is None:
+        raise RefusedAt(14, at)
+    tag, body, behind = found
+    if tag == 6 and not body:
+        return None, behind, width
+    if LENGTHS.get(tag) != len(body):
+        raise RefusedAt(14, at)
+    try:
+        step, after = step_of(tag, body, width, limit)
+    except Refused as refusal:
+        raise RefusedAt(refusal.args[0], at)
+    return step, behind, after
+
+
+def walk(run):
+    """The start width and the steps, each with the offset of its tag."""
+    if len(run) > LONGEST:
+        raise RefusedAt(14, 0)
+    first = start(run, WIDEST)
+    if first is None:
+        raise RefusedAt(14, 0)
+    at, width, steps = 4, first, []
+    while True:
+        step, behind, width = read(run, at, width, WIDEST)
+        if step is None:
+            break
+        steps.append((at, step))
+        at = behind
+    if behind != len(run):
+        raise RefusedAt(14, behind)
+    return first, steps
+
+
+def width_after(width, step):
+    return width + {"promotion": 1, "projection": -1}.get(step[0], 0)
+
+
+def survey(run):
+    """Last width, number of steps, greatest width, and the largest state left by a
+    projection with x not 0."""
+    width, steps = walk(run)
+    greatest, scratch = width, 0
+    for _, step in steps:
+        if step[0] == "projection" and step[1].x:
+            scratch = max(scratch, 2 ** (width - 1))
+        width = width_after(width, step)
+        greatest = max(greatest, width)
+    return width, len(steps), greatest, scratch
+
+
+# ------------------------------------------------------- running and carrying
+
+
+def run_step(width, step, re, im, scratch_re, scratch_im):
+    kind, *rest = step
+    if kind == "rotation":
+        model.rotate(*rest, re, im)
+    elif kind == "promotion":
+        model.promote(width, *rest, re, im)
+    elif kind == "projection":
+        model.project(*rest, re, im, scratch_re, scratch_im)
+    else:
+        model.correct(*rest, re, im)
+
+
+def run_whole(run, re, im, scratch_re, scratch_im, seen=lambda width: None):
+    """The last width and the number of steps done; `seen` is told each width on the way."""
+    last, count, greatest, scratch = survey(run)
+    refuse(13, min(len(re), len(im)) < 2**greatest)
+    refuse(13, min(len(scratch_re), len(scratch_im)) < scratch)
+    width, steps = walk(run)
+    seen(width)
+    for _, step in steps:
+        run_step(width, step, re, im, scratch_re, scratch_im)
+        width = width_after(width, step)
+        seen(width)
+    assert width == last
+    return last, count
+
+
+def anticommute(a, b):
+    return parity(a.x & b.z) ^ parity(a.z & b.x)
+
+
+def raised(pauli, exponent):
+    return Pauli(pauli.n, (pauli.k + exponent) % 4, pauli.x, pauli.z)
+
+
+def product(a, b):
+    """A·B (B acts first) xors the masks; its phase is kA + kB + 2 × parity(A.z and B.x)."""
+    return raised(Pauli(a.n, a.k, a.x ^ b.x, a.z ^ b.z), b.k + 2 * parity(a.z & b.x))
+
+
+def carry(run, pauli, room):
+    """The carried run, of equal length, and the end Pauli; `room` is the output's length."""
+    width, steps = walk(run)
+    refuse(3, not pauli.fits())
+    refuse(4, pauli.n != width)
+    refuse(16, room < len(run))
+    out = bytearray(run)
+    for at, (kind, *rest) in steps:
+        flips = anticommute(pauli, rest[0]) if kind != "promotion" else 0
+        if kind == "rotation":
+            # Sign flips when Q and P anticommute; Q stays.
+            out[at + 3 + 17] ^= flips
+        elif kind == "promotion":
+            # Q gains identity on the new qubit.
+            pauli = Pauli(pauli.n + 1, pauli.k, pauli.x, pauli.z)
+        elif kind == "correction":
+            # Q's phase rises by 2 when they anticommute.
+            pauli = raised(pauli, 2 * flips)
+        else:
+            # Branch flips when Q and M anticommute; call the new branch v. If Q has, at the
+            # pivot, an X part (M.x not 0) or a Z part (M.x = 0), Q becomes Q·M with phase
+            # raised by 2v. Then the pivot's bit is dropped from both masks.
+            measured, pivot, branch, _ = rest
+            out[at + 3 + 18] ^= flips
+            new = branch ^ flips
+            if (pauli.x if measured.x else pauli.z) >> pivot & 1:
+                pauli = raised(product(pauli, measured), 2 * new)
+            x, z = model.drop_bit(pivot, pauli.x), model.drop_bit(pivot, pauli.z)
+            pauli = Pauli(pauli.n - 1, pauli.k, x, z)
+    return bytes(out), pauli
+
+
+# ------------------------------------------------------------------- demand 3
+
+
+def compared(a, b):
+    """Two floats are the same number when their bits are equal or both are zeros."""
+    if a != a or b != b:
+        return 1 if a != a and b != b else 2
+    return 0 if a == b else 2
+
+
+def lent(part, past):
+    """A buffer that holds these floats, and something past them, which plays no part."""
+    return (part + [past] * ROOM)[:ROOM]
+
+
+def both_sides(run, pauli, re, im):
+    """Each basis with both amplitudes; the verdict; whether demand 3 promises `same`."""
+    carried, end = carry(run, pauli, len(run))
+    left = [lent(re, 0.0), lent(im, 0.0), lent([], 0.0), lent([], 0.0)]
+    right = [lent(re, 7.0), lent(im, 7.0), lent([], 0.0), lent([], 0.0)]
+    model.correct(pauli, *left[:2])
+    last, _ = run_whole(run, *left)
+    finite = True
+
+    def seen(width):
+        nonlocal finite
+        parts = right[0][: 2**width] + right[1][: 2**width]
+        finite = finite and all(abs(x) < float("inf") for x in parts)
+
+    run_whole(carried, *right, seen)
+    model.correct(end, *right[:2])
+    lines, worst = [], 0
+    for b in range(2**last):
+        parts = [side[part][b] for side in (left, right) for part in (0, 1)]
+        worst = max(worst, compared(parts[0], parts[2]), compared(parts[1], parts[3]))
+        lines.append(f"{b} " + " ".join(map(shown, parts)))
+    return lines, ("same", "nan", "differ")[worst], finite
+
+
+# ------------------------------------------------------------------- the text
+
+
+def bytes_of(text):
+    run = b""
+    for piece in text.split(","):
+        count, star, digits = piece.rpartition("*")
+        run += bytes.fromhex(digits) * (int(count) if star else 1)
+    return run
+
+
+def refused(refusal):
+    place = "" if isinstance(refusal, Refused) else f" at {refusal.args[1]}"
+    return f"refused {refusal.args[0]}{place}"
+
+
+def told_check(run):
+    try:
+        return "run {} {} {} {}".format(*survey(run))
+    except RefusedAt as refusal:
+        return refused(refusal)
+
+
+def told_field(run, at):
+    found = field(run, at)
+    return "cut []" if found is None else f"{found[0]} {found[2]} [{found[1].hex()}]"
+
+
+def told_start(run, limit):
+    width = start(run, limit)
+    return "none" if width is None else str(width)
+
+
+def told_read(run, at, width, limit):
+    step, *cursor = read(run, at, width, limit)
+    words = []
+    for part in step or ["end"]:
+        pauli = isinstance(part, Pauli)
+        words.append(part.shown() if pauli else shown(part) if isinstance(part, float) else str(part))
+    return " ".join([*words, *map(str, cursor)])
+
+
+def told_output(run, out):
+    """Where and how the output differs from the run, and whether the bytes past it are kept."""
+    changed = [f" {i}:{b:02x}" for i, b in enumerate(out[: len(run)]) if b != run[i]]
+    tail = " kept" if all(b == FILLED for b in out[len(run) :]) else " written"
+    return "".join(changed) + tail
+
+
+def told_carry(run, pauli, room):
+    out = bytes([FILLED]) * room
+    try:
+        carried, end = carry(run, pauli, room)
+    except (Refused, RefusedAt) as refusal:
+        return refused(refusal) + told_output(b"", out)
+    return "carried " + end.shown() + told_output(run, carried + out[len(run) :])
+
+
+def told_both(run, pauli, re, im):
+    lines, verdict, finite = both_sides(run, pauli, re, im)
+    assert verdict == "same" or not finite, "demand 3"
+    return " | ".join([*lines, verdict])
+
+
+def answer(line):
+    if line.startswith("#"):
+        return line
+    head, *parts = line.split("|")
+    name, text, *words = head.split()
+    run = bytes_of(text)
+    words = [int(word, 0) for word in words]
+    buffers = [[number(int(word, 16)) for word in part.split()] for part in parts]
+    try:
+        if name == "field":
+            return told_field(run, *words)
+        if name == "start":
+            return told_start(run, *words)
+        if name == "step":
+            return told_read(run, *words)
+        if name == "check":
+            return told_check(run)
+        if name == "cuts":
+            return "".join(told_check(run[:cut]) + "," for cut in range(len(run)))
+        if name == "carry":
+            return told_carry(run, Pauli(*words[:4]), words[4])
+        if name == "both":
+            return told_both(run, Pauli(*words), *buffers)
+        assert name == "run"
+        buffers += [[past] * size for past, size in zip((7.0, 7.5), words)]
+        outcome = "finished {} {}".format(*run_whole(run, *buffers))
+    except (Refused, RefusedAt) as refusal:
+        outcome = refused(refusal)
+    for buffer in buffers if name == "run" else []:
+        outcome += " |" + "".join(" " + shown(x) for x in buffer)
+    return outcome
+
+
+# ----------------------------------------------------------- fields and runs
+
+X, Y, Z, I = (0, 1, 0), (1, 1, 1), (0, 0, 1), (0, 0, 0)
+NAN, INFINITY = float("nan"), float("inf")
+ABOVE_ONE = number(0x3FF0000000000001)
+
+
+def framed(tag, body):
+    return struct.pack("<BH", tag, len(body)) + body
+
+
+def starting(n):
+    return framed(1, bytes([n]))
+
+
+def rotating(p=X, sign=0, c=0.6, s=0.8):
+    return framed(2, struct.pack("<BQQBdd", *p, sign, c, s))
+
+
+def promoting(c=0.6, q=0.8):
+    return framed(3, struct.pack("<dd", c, q))
+
+
+def projecting(p=X, pivot=0, branch=0, invnorm=1.0):
+    return framed(4, struct.pack("<BQQBBd", *p, pivot, branch, invnorm))
+
+
+def correcting(p=X):
+    return framed(5, struct.pack("<BQQ", *p))
+
+
+END = framed(6, b"")
+
+
+def spelled(*pieces):
+    """A run in text: fields, or pairs of a count and a field."""
+    texts = []
+    for piece in pieces:
+        count, digits = piece if isinstance(piece, tuple) else (1, piece)
+        texts.append((f"{count}*" if count != 1 else "") + digits.hex())
+    return ",".join(filter(None, texts)) or "0*00"
+
+
+def floats(values):
+    return "".join(" " + shown(x) for x in values)
+
+
+def check_line(*pieces):
+    return f"check {spelled(*pieces)}"
+
+
+def run_line(text, re, im, m=0, n=0):
+    return f"run {text} {m} {n} |{floats(re)} |{floats(im)}"
+
+
+def carry_line(text, width, p, room):
+    return f"carry {text} {width} {p[0]} {p[1]:#x} {p[2]:#x} {room}"
+
+
+def both_line(text, width, p, re, im):
+    return f"both {text} {width} {p[0]} {p[1]:#x} {p[2]:#x} |{floats(re)} |{floats(im)}"
+
+
+def length(text):
+    return len(bytes_of(text))
+
+
+# ------------------------------------------------------------- runs at limits
+
+
+class Lines:
+    """Lines of a program's standard input. Where an answer is given, it was derived by
+    hand, and the model has to agree."""
+
+    def __init__(self):
+        self.lines = []
+
+    def say(self, comment):
+        self.lines.append("# " + comment)
+
+    def ask(self, line, expected=None):
+        assert expected in (None, answer(line)), (line, expected, answer(line))
+        self.lines.append(line)
+
+
+def subsets(items):
+    for chosen in range(2 ** len(items)):
+        yield [item for place, item in enumerate(items) if chosen >> place & 1]
+
+
+def refusal_of(rows, at):
+    return f"refused {min(rows)} at {at}"
+
+
+# Runs that hold every kind of step: width 2 to 3 to 2 to 1, and from no qubit and back.
+EVERY_KIND = [
+    starting(2),
+    rotating((1, 1, 3), 1),
+    promoting(),
+    projecting((0, 5, 0), 2, 1, 0.75),
+    correcting((3, 2, 1)),
+    projecting((2, 0, 3), 0, 0, 1.25),
+    END,
+]
+FROM_NONE = [starting(0), promoting(), projecting(Z), promoting(-0.0, 1.0), correcting(), END]
+DIAGONAL = [starting(1), rotating(Z), projecting(Z, 0, 1, -2.0), correcting(I), END]
+
+
+def fields(lines):
+    lines.say("The field at a place: tag, the next field's place, body. Nothing is asked of a tag.")
+    run = [starting(1), correcting(), b"\xff\x02\x00\xab\xcd", END]
+    text = spelled(*run)
+    for at in (0, 1, 4, 5, 24, 25, 26, 27, 28, 29, 30, 31, 32, 33):
+        lines.ask(f"field {text} {at}")
+    lines.ask(f"field {text} {2**64 - 1}", "cut []")
+    lines.ask(f"field {text} {2**64 - 3}", "cut []")
+    lines.ask(f"field {spelled()} 0", "cut []")
+    lines.say("A field cut in its header, and by one byte of its body; a body of two bytes' length.")
+    lines.ask("field 06 0", "cut []")
+    lines.ask("field 0600 0", "cut []")
+    lines.ask("field 060000 0", "6 3 []")
+    lines.ask("field 060100 0", "cut []")
+    lines.ask("field 090001,255*ab 0", "cut []")
+    lines.ask("field 090001,256*ab 0", f"9 259 [{'ab' * 256}]")
+
+
+def starts(lines):
+    lines.say("The start field's width under a limit: 12, then others.")
+    for n in (0, 1, 12):
+        lines.ask(f"start {spelled(starting(n))} 12", str(n))
+    for n in (13, 14, 128, 255):
+        lines.ask(f"start {spelled(starting(n))} 12", "none")
+    for n, limit in ((6, 6), (0, 0), (255, 255), (255, 2**64 - 1)):
+        lines.ask(f"start {spelled(starting(n))} {limit}", str(n))
+    for n, limit in ((7, 6), (1, 0), (255, 254)):
+        lines.ask(f"start {spelled(starting(n))} {limit}", "none")
+    lines.say("No start: another tag, another length, cut, nothing.")
+    for run in (b"\x00\x01\x00\x01", b"\x02\x01\x00\x01", b"\x01\x00\x00", b"\x01\x02\x00\x01\x01"):
+        lines.ask(f"start {spelled(run)} 12", "none")
+    for cut in range(4):
+        lines.ask(f"start {spelled(starting(1)[:cut])} 12", "none")
+
+
+def reads(lines):
+    lines.say("A read: the step with its Pauli and floats, and the cursor behind it.")
+    text = spelled(*EVERY_KIND)
+    for at, width in ((4, 2), (41, 2), (60, 3), (90, 2), (110, 2), (140, 1)):
+        lines.ask(f"step {text} {at} {width} 12")
+    lines.ask(f"step {text} 41 2 12", f"promotion {shown(0.6)} {shown(0.8)} 60 3")
+    lines.ask(f"step {text} 90 2 12", "correction 2 3 0x2 0x1 110 2")
+    lines.ask(f"step {text} 140 1 12", "end 143 1")
+    lines.say("At the start field, inside a field, at the end, past it, at the largest place.")
+    for at in (0, 1, 5, 142, 143, 144, 2**64 - 2, 2**64 - 1):
+        lines.ask(f"step {text} {at} 2 12", f"refused 14 at {at}")
+    lines.say("Widths 0 to 13 at each field, and a limit of 2 and of 3 at the promotion.")
+    for at in (4, 41, 60, 90, 110, 140):
+        for width in (0, 1, 2, 3, 11, 12, 13):
+            lines.ask(f"step {text} {at} {width} 12")
+    lines.ask(f"step {text} 41 2 2", "refused 15 at 41")
+    lines.ask(f"step {text} 41 2 3", f"promotion {shown(0.6)} {shown(0.8)} 60 3")
+    lines.ask(f"step {text} 41 0 0", "refused 15 at 41")
+
+
+def accepted(lines):
+    lines.say("Accepted: last width, steps, greatest width, amplitudes that the scratch must hold.")
+    for n in range(13):
+        lines.ask(check_line(starting(n), END), f"run {n} 0 {n} 0")
+    lines.ask(check_line(*EVERY_KIND), "run 1 5 3 4")
+    lines.ask(check_line(*FROM_NONE), "run 1 4 1 0")
+    lines.ask(check_line(*DIAGONAL), "run 0 3 1 0")
+    lines.say("The largest state left by a projection with x not 0, first or last of several; none with x = 0.")
+    small, large = projecting((0, 1, 0)), projecting((0, 8, 0), 3)
+    diagonal = projecting((0, 0, 1))
+    ask = lambda *fields: check_line(starting(4), *fields, END)
+    lines.ask(ask(large, small), "run 2 2 4 8")
+    lines.ask(ask(diagonal, small), "run 2 2 4 4")
+    lines.ask(ask(diagonal, small, promoting(), promoting(), promoting(), large), "run 4 6 5 16")
+    lines.ask(ask(diagonal, diagonal, small, diagonal), "run 0 4 4 2")
+    lines.ask(ask(diagonal, diagonal, diagonal, small), "run 0 4 4 1")
+    lines.say("Width 12: from the start, by promotion, left and reached again.")
+    to_twelve = [starting(0), (12, promoting()), END]
+    lines.ask(check_line(*to_twelve), "run 12 12 12 0")
+    high = projecting((1, 1 << 11, 1 << 11 | 1), 11)
+    lines.ask(check_line(starting(12), high, promoting(), high, END), "run 11 3 12 2048")
+    lines.say("c, s and q at -1, 0 and 1, zeros of both signs, denormals; invnorm of any size.")
+    for c, s in ((-1.0, 1.0), (1.0, -1.0), (0.0, -0.0), (5e-324, -5e-324), (1.0, 1.0)):
+        lines.ask(check_line(starting(1), rotating(X, 0, c, s), promoting(c, s), END), "run 2 2 2 0")
+    for invnorm in (0.0, -0.0, -1.0, 5e-324, 1.7976931348623157e308, -1.7976931348623157e308):
+        lines.ask(check_line(starting(1), projecting(X, 0, 1, invnorm), END), "run 0 1 1 1")
+    lines.say("A correction's phase is any of 0 to 3, Hermitian or not.")
+    for k in range(4):
+        lines.ask(check_line(starting(1), correcting((k, 1, 1)), END), "run 1 1 1 0")
+
+
+def single_rows(lines):
+    """Each row from each kind of field, by every fault that it names."""
+    nans = [number(b) for b in (0x7FF8000000000000, 0xFFF8000000000000, 0x7FF0000000000001, 0xFFFFFFFFFFFFFFFF)]
+    below = -ABOVE_ONE
+    beyond = [*nans, ABOVE_ONE, below, 2.0, -2.0, INFINITY, -INFINITY]
+    cases = [
+        ("A rotation at width 2", rotating, {
+            3: [dict(p=p) for p in ((4, 1, 0), (255, 1, 0), (0, 4, 0), (0, 0, 4), (0, 1 << 63, 0), (0, 0, 1 << 63))],
+            7: [dict(p=p) for p in ((1, 1, 0), (3, 0, 1), (0, 1, 1), (2, 3, 1), (1, 3, 3), (1, 0, 0))],
+            8: [dict(c=c) for c in beyond] + [dict(s=s) for s in beyond],
+            14: [dict(sign=sign) for sign in (2, 3, 128, 255)],
+        }),
+        ("A projection at width 2", projecting, {
+            3: [dict(p=p) for p in ((4, 1, 0), (255, 1, 0), (0, 5, 0), (0, 1, 4), (0, 1 << 63, 0), (0, 0, 1 << 63))],
+            7: [dict(p=p) for p in ((1, 1, 0), (3, 0, 1), (0, 1, 1), (2, 3, 1), (1, 3, 3))],
+            8: [dict(invnorm=invnorm) for invnorm in (*nans, INFINITY, -INFINITY)],
+            10: [dict(pivot=pivot) for pivot in (2, 3, 64, 255)],
+            11: [dict(p=I), dict(p=(2, 0, 0))],
+            12: [dict(p=(0, x, z), pivot=pivot) for x, z, pivot in ((1, 2, 1), (2, 1, 0), (0, 1, 1), (0, 2, 0))],
+            14: [dict(branch=branch) for branch in (2, 3, 128, 255)],
+        }),
+        ("A promotion at width 2", promoting, {8: [dict(c=c) for c in beyond] + [dict(q=q) for q in beyond]}),
+        ("A correction at width 2", correcting, {
+            3: [dict(p=p) for p in ((4, 1, 0), (255, 0, 0), (0, 4, 0), (0, 0, 4), (0, 1 << 63, 0), (0, 0, 1 << 63))],
+        }),
+    ]
+    for name, make, rows in cases:
+        for row, faults in rows.items():
+            lines.say(f"{name}: {row}.")
+            for fault in faults:
+                text = spelled(starting(2), correcting(I), make(**fault), END)
+                lines.ask(f"check {text}", f"refused {row} at 24")
+
+
+def rows_together(lines):
+    """Every set of faults in one field: the lowest number."""
+    lines.say("Several rows in one field, the lowest number wins: a rotation by 3, 7, 8, 14.")
+    for rows in subsets([3, 7, 8, 14]):
+        p = (1 if 7 in rows else 0, 5 if 3 in rows else 1, 0)
+        made = rotating(p, 2 if 14 in rows else 0, NAN if 8 in rows else 0.6)
+        line = check_line(starting(2), made, END)
+        lines.ask(line, refusal_of(rows, 4) if rows else "run 2 1 2 0")
+    lines.say("A projection by 3, 7, 8, 10, 11, 14, and by 12 for 10.")
+    for pivot in (0, 1, 2):
+        for rows in subsets([3, 7, 8, 11, 14]):
+            x = 0 if 11 in rows else 1
+            p = (1 if 7 in rows else 0, x, 4 if 3 in rows else 0)
+            made = projecting(p, pivot, 2 if 14 in rows else 0, INFINITY if 8 in rows else 1.0)
+            rows = rows + [[], [12], [10]][pivot]
+            line = check_line(starting(2), made, END)
+            lines.ask(line, refusal_of(rows, 4) if rows else "run 1 1 2 2")
+    lines.say("A projection at width 0: 3, 7, 8, then 9 before 10, 11, 12 and 14.")
+    for rows in subsets([3, 7, 8, 14]):
+        p = (1 if 7 in rows else 0, 1 if 3 in rows else 0, 0)
+        made = projecting(p, 0, 2 if 14 in rows else 0, NAN if 8 in rows else 1.0)
+        lines.ask(check_line(starting(0), made, END), refusal_of([9, *rows], 4))
+    lines.say("A promotion by 8 and 15.")
+    for rows in subsets([8, 15]):
+        made = promoting(0.6, NAN if 8 in rows else 0.8)
+        n = 12 if 15 in rows else 11
+        line = check_line(starting(n), made, END)
+        lines.ask(line, refusal_of(rows, 4) if rows else "run 12 1 12 0")
+    lines.say("A second promotion past 12; one after a projection from 12 is taken.")
+    lines.ask(check_line(starting(11), promoting(), promoting(), END), "refused 15 at 23")
+    lines.ask(check_line(starting(12), projecting(), (2, promoting()), END), "refused 15 at 53")
+    lines.ask(check_line(starting(12), projecting(), promoting(), END), "run 12 2 12 2048")
+    lines.say("Masks are held against the width at the step, not at the start.")
+    lines.ask(check_line(starting(1), correcting((0, 2, 0)), promoting(), END), "refused 3 at 4")
+    lines.ask(check_line(starting(1), promoting(), correcting((0, 2, 0)), END), "run 2 2 2 0")
+    lines.ask(check_line(starting(2), projecting(), correcting((0, 2, 0)), END), "refused 3 at 34")
+    lines.ask(check_line(starting(1), projecting(), projecting(), END), "refused 3 at 34")
+    lines.ask(check_line(starting(1), projecting(), projecting(I), END), "refused 9 at 34")
+    lines.ask(check_line(starting(2), projecting((0, 3, 0), 1), projecting((0, 1, 0), 1), END), "refused 10 at 34")
+
+
+def wrong_fields(lines):
+    good = {2: rotating(), 3: promoting(), 4: projecting(), 5: correcting()}
+    lines.say("A field wrong in tag, whatever its body.")
+    for tag in (0, 7, 8, 128, 255):
+        for field_of in good.values():
+            text = spelled(starting(2), bytes([tag]) + field_of[1:], END)
+            lines.ask(f"check {text}", "refused 14 at 4")
+        lines.ask(check_line(starting(2), framed(tag, b''), END), "refused 14 at 4")
+    lines.say("A step of another kind's length.")
+    for tag in good:
+        for other, field_of in good.items():
+            if other != tag:
+                text = spelled(starting(2), bytes([tag]) + field_of[1:], END)
+                lines.ask(f"check {text}", "refused 14 at 4")
+    lines.say("Wrong in length by one, empty, and with 256 bytes more (the length's high byte).")
+    for tag, field_of in good.items():
+        body = field_of[3:]
+        for wrong in (body[:-1], body + b"\0", b"", body + bytes(256)):
+            lines.ask(check_line(starting(2), framed(tag, wrong), END), "refused 14 at 4")
+    lines.say("The same with a body that other rows would refuse: 14.")
+    bad = [rotating((4, 5, 0), 2, NAN), promoting(NAN, 2.0), projecting((4, 0, 0), 9, 9, NAN), correcting((9, 9, 9))]
+    for field_of in bad:
+        body = field_of[3:]
+        for wrong in (body[:-1], body + b"\0"):
+            lines.ask(check_line(starting(2), framed(field_of[0], wrong), END), "refused 14 at 4")
+        lines.ask(check_line(starting(2), field_of[:-1]), "refused 14 at 4")
+    lines.ask(check_line(starting(12), framed(3, bytes(15)), END), "refused 14 at 4")
+
+
+def wrong_places(lines):
+    lines.say("The first field is no start: 14 at 0.")
+    for first in (rotating(), promoting(), projecting(), correcting(), END):
+        lines.ask(check_line(first, starting(2), END), "refused 14 at 0")
+    for first in (framed(1, b""), framed(1, b"\2\0"), framed(0, b"\2"), framed(6, b"\2")):
+        lines.ask(check_line(first, END), "refused 14 at 0")
+    lines.say("n over 12.")
+    for n in (13, 14, 64, 128, 255):
+        lines.ask(check_line(starting(n), END), "refused 14 at 0")
+    lines.say("A second start, of another width, of a width over 12, at once or later.")
+    lines.ask(check_line(starting(2), starting(2), END), "refused 14 at 4")
+    lines.ask(check_line(starting(2), starting(13), END), "refused 14 at 4")
+    lines.ask(check_line(starting(2), correcting(), starting(1), END), "refused 14 at 24")
+    lines.say("No end: 14 at the run's length. Nothing at all: 14 at 0.")
+    lines.ask(check_line(), "refused 14 at 0")
+    lines.ask(check_line(starting(2)), "refused 14 at 4")
+    lines.ask(check_line(starting(2), correcting()), "refused 14 at 24")
+    lines.ask(check_line(*EVERY_KIND[:-1]), "refused 14 at 140")
+    lines.say("An end with a body; one or two stray bytes; a tag's length cut.")
+    lines.ask(check_line(starting(2), framed(6, bytes(1))), "refused 14 at 4")
+    lines.ask(check_line(starting(2), framed(6, bytes(1)), END), "refused 14 at 4")
+    lines.ask(check_line(starting(2), correcting(), framed(6, bytes(3)), END), "refused 14 at 24")
+    for stray in (b"\6", b"\5", b"\0", b"\6\0", b"\5\x11", b"\xff\xff", b"\6\1\0", b"\5\x11\0"):
+        lines.ask(check_line(starting(2), correcting(), stray), "refused 14 at 24")
+    lines.say("Bytes past the end: 14 at the first of them, whatever they are.")
+    for past in (b"\0", b"\6", b"\6\0", END, correcting(), correcting((9, 9, 9)), starting(2) + END):
+        lines.ask(check_line(starting(2), correcting(), END, past), "refused 14 at 27")
+    lines.ask(check_line(starting(2), END, END), "refused 14 at 7")
+
+
+def two_fields(lines):
+    """One fault each in two fields: the first in the file, whichever number it has."""
+    at_two = [
+        (3, rotating((4, 1, 0))), (7, rotating((1, 1, 0))), (8, rotating(X, 0, NAN)), (14, rotating(X, 2)),
+        (8, promoting(2.0)), (3, projecting((0, 1, 4))), (7, projecting((1, 1, 0))), (8, projecting(X, 0, 0, NAN)),
+        (10, projecting(X, 2)), (11, projecting(I)), (12, projecting(X, 1)), (14, projecting(X, 0, 2)),
+        (3, correcting((4, 0, 0))), (14, framed(7, b"")), (14, framed(5, bytes(16))), (14, starting(2)),
+    ]
+    lines.say("Faults in two fields: the first in the file, though the second has a lower number.")
+    for row, first in at_two:
+        for lower, second in ((3, correcting((4, 0, 0))), (14, framed(0, b""))):
+            lines.ask(check_line(starting(2), first, second, END), f"refused {row} at 4")
+            lines.ask(check_line(starting(2), second, first, END), f"refused {lower} at 4")
+    for lower, second in ((3, correcting((4, 0, 0))), (7, rotating((1, 1, 0))), (14, b"")):
+        line = check_line(starting(12), promoting(), second, END)
+        lines.ask(line, "refused 15 at 4")
+    lines.ask(check_line(starting(13), correcting((4, 0, 0)), END), "refused 14 at 0")
+    lines.ask(check_line(starting(2), correcting((4, 0, 0))), "refused 3 at 4")
+    lines.ask(check_line(starting(2), correcting((4, 0, 0)), END, END), "refused 3 at 4")
+    lines.ask(check_line(starting(0), projecting(I), END), "refused 9 at 4")
+
+
+def cuts(lines):
+    lines.say("Cut at every byte: runs that hold every kind of step.")
+    for run in (EVERY_KIND, FROM_NONE, DIAGONAL, [starting(12), END]):
+        lines.ask(f"cuts {spelled(*run)}")
+    lines.ask(f"cuts {spelled(starting(2), END)}", "refused 14 at 0," * 4 + "refused 14 at 4," * 3)
+    lines.say("Cut behind a field that is refused: its own refusal from there on.")
+    lines.ask(f"cuts {spelled(starting(2), correcting((4, 0, 0)), END)}")
+
+
+def lengths(lines):
+    longest = spelled(starting(1), (17, rotating()), (3245, correcting()), END)
+    assert length(longest) == LONGEST
+    over = spelled(starting(1), (10, rotating()), (3258, correcting()), END)
+    assert length(over) == LONGEST + 1
+    lines.say("65,536 bytes exactly: taken, run and carried.")
+    lines.ask(f"check {longest}", "run 1 3262 1 0")
+    state = [1.0, 0.0], [0.0, -0.0]
+    lines.ask(run_line(longest, *state))
+    for p in (X, Z, Y):
+        lines.ask(carry_line(longest, 1, p, LONGEST))
+    lines.ask(carry_line(longest, 1, Z, LONGEST + 100))
+    lines.ask(carry_line(longest, 1, Z, LONGEST - 1), "refused 16 kept")
+    lines.ask(carry_line(longest, 0, I, LONGEST), "refused 4 kept")
+    lines.say("One byte more, good fields all: 14 at 0, before any field.")
+    lines.ask(f"check {over}", "refused 14 at 0")
+    lines.ask(run_line(over, *state), "refused 14 at 0 |" + floats(state[0]) + " |" + floats(state[1]) + " | |")
+    lines.ask(carry_line(over, 1, Z, LONGEST + 1), "refused 14 at 0 kept")
+    lines.ask(carry_line(over, 300, (9, 9, 9), 0), "refused 14 at 0 kept")
+    lines.say("65,536 with a fault at the end, with one in the middle; 65,537 with one.")
+    inner = (3244, correcting())
+    lines.ask(check_line(starting(1), (17, rotating()), inner, correcting((4, 0, 0)), END), "refused 3 at 65513")
+    lines.ask(check_line(starting(1), (17, rotating()), (3245, correcting()), END[:2]), "refused 14 at 65533")
+    lines.ask(check_line(starting(1), correcting((4, 0, 0)), (65513, bytes(1))), "refused 14 at 0")
+    lines.ask(check_line(starting(1), END, (65529, bytes(1))), "refused 14 at 7")
+    lines.ask(check_line(starting(1), END, (65530, bytes(1))), "refused 14 at 0")
+    lines.ask(check_line((65536, bytes(1))), "refused 14 at 0")
+    lines.say("A field that claims 65,535 bytes.")
+    lines.ask(check_line(starting(1), bytes([5, 255, 255]), (65529, bytes(1))), "refused 14 at 4")
+    lines.ask(check_line(starting(1), bytes([5, 255, 255]), (17, bytes(1)), END), "refused 14 at 4")
+
+
+def room(lines):
+    """Row 13 of running, by one entry; 13 after the run's own rows; tails."""
+    grown = [starting(1), promoting(), projecting((0, 3, 0), 1), END]
+    text = spelled(*grown)
+    re, im = [1.0, 0.5, 7.0, 7.5], [0.25, -0.0, 7.25, 7.75]
+    lines.say("Room for the greatest width in re and im, for a mixing projection's output in each scratch.")
+    lines.ask(run_line(text, re, im, 2, 2))
+    kept = f" |{floats(re)} |{floats(im)}"
+    lines.ask(run_line(text, re[:3], im, 2, 2))
+    lines.ask(run_line(text, re, im[:3], 2, 2))
+    lines.ask(run_line(text, re, im, 1, 2), f"refused 13{kept} |{floats([7.0])} |{floats([7.5, 7.5])}")
+    lines.ask(run_line(text, re, im, 2, 1), f"refused 13{kept} |{floats([7.0, 7.0])} |{floats([7.5])}")
+    lines.ask(run_line(text, [], []), "refused 13 | | | |")
+    lines.say("Longer buffers: what lies past is kept.")
+    lines.ask(run_line(text, re + [1.5, NAN, -0.0], im + [2.5], 3, 5))
+    lines.say("No scratch is asked for where no projection has an X part; a promotion's room is, though left again.")
+    diagonal = spelled(starting(1), promoting(), projecting((0, 0, 3), 1), END)
+    lines.ask(run_line(diagonal, re, im))
+    lines.ask(run_line(diagonal, re[:3], im), f"refused 13 |{floats(re[:3])} |{floats(im)} | |")
+    lines.ask(run_line(diagonal, re, im[:3]), f"refused 13 |{floats(re)} |{floats(im[:3])} | |")
+    nothing = spelled(starting(0), END)
+    lines.ask(run_line(nothing, [0.5], [-0.5]), f"finished 0 0 |{floats([0.5])} |{floats([-0.5])} | |")
+    lines.ask(run_line(nothing, [], [-0.5]), f"refused 13 | |{floats([-0.5])} | |")
+    lines.ask(run_line(nothing, [0.5], []), f"refused 13 |{floats([0.5])} | | |")
+    mixing = spelled(starting(1), projecting(), END)
+    for m, n in ((1, 1), (0, 1), (1, 0)):
+        lines.ask(run_line(mixing, [1.0, 2.0], [3.0, 4.0], m, n))
+    lines.say("The run's own refusal, with its place, before 13. All buffers are kept.")
+    for last in (correcting((4, 0, 0)), promoting(NAN), projecting(X, 3), framed(9, b""), b"\6"):
+        refused_run = spelled(*grown[:-1], last, END)
+        lines.ask(run_line(refused_run, re, im, 2, 2))
+        lines.ask(run_line(refused_run, [], []))
+    lines.ask(run_line(spelled(*grown[:-1]), re, im, 2, 2))
+    lines.ask(run_line(spelled(), re, im, 2, 2))
+    lines.say("At width 12 there is never room in 16 entries.")
+    lines.ask(run_line(spelled(starting(12), END), [1.0] * 16, [0.0] * 16))
+    lines.ask(run_line(spelled(starting(13), END), [1.0], []), f"refused 14 at 0 |{floats([1.0])} | | |")
+
+
+def values(lines):
+    """Every kind of step run, on states with zeros of both signs, denormals, infinities, NaN."""
+    states = [
+        ([1.0, 0.0, 0.0, 0.0], [0.0, 0.0, 0.0, 0.0]),
+        ([0.5, -0.0, -0.5, 5e-324], [-0.25, 1.0, -0.0, -5e-324]),
+        ([0.1, 0.2, 0.3, 0.7], [-0.3, 0.6, 1e-310, -0.9]),
+        ([INFINITY, 1.0, NAN, -0.0], [0.0, -INFINITY, 2.0, 1e308]),
+    ]
+    steps = [rotating((k, x, z), sign) for k, x, z in ((0, 0, 3), (2, 3, 0), (1, 3, 1), (0, 0, 0)) for sign in (0, 1)]
+    measured = [((2, 0, 3), 1), ((0, 2, 1), 1), ((3, 1, 3), 0)]
+    steps += [projecting(p, pivot, branch, 1.5) for p, pivot in measured for branch in (0, 1)]
+    steps += [correcting((k, 2, 3)) for k in range(4)] + [promoting(0.6, -0.8), promoting(0.0, 1.0)]
+    for number_of, (re, im) in enumerate(states):
+        lines.say(f"Steps on state {number_of + 1} of {len(states)}, with room for a promotion.")
+        for step in steps:
+            past = [9.0, 9.5, 9.25, 9.75, 10.0]
+            lines.ask(run_line(spelled(starting(2), step, END), re + past, im + past, 3, 2))
+    lines.say("Every kind in a row.")
+    for re, im in states:
+        for run in (EVERY_KIND, [starting(2), *EVERY_KIND[1:4], *EVERY_KIND[2:4], END]):
+            lines.ask(run_line(spelled(*run), re + [3.0] * 4, im + [4.0] * 4, 4, 4))
+    lines.ask(run_line(spelled(*FROM_NONE), [0.5, 1.0], [-0.25, 2.0]))
+    lines.ask(run_line(spelled(*DIAGONAL), [0.5, 1.0, 3.0], [-0.25, 2.0, 4.0], 1))
+    lines.say("Seven qubits and back.")
+    wide = [rotating((0, 0x55, 0x2A), 1), projecting((1, 0x60, 0x41), 6, 1, 1.25), promoting(), rotating((0, 0, 0x7F))]
+    rng = random.Random(7)
+    lines.ask(run_line(spelled(starting(7), *wide, END), *random_state(rng, 7), 64, 64))
+    lines.say("The scope's examples: X fired on (1, 0); (1, 0) promoted with c 0, q 1.")
+    lines.ask(
+        run_line(spelled(starting(1), correcting(), END), [1.0, 0.0], [0.0, 0.0]),
+        f"finished 1 1 |{floats([0.0, 1.0])} |{floats([0.0, 0.0])} | |",
+    )
+    lines.ask(
+        run_line(spelled(starting(0), promoting(0.0, 1.0), END), [1.0, 7.0], [0.0, 7.0]),
+        f"finished 1 1 |{floats([0.0, -0.0])} |{floats([0.0, 1.0])} | |",
+    )
+
+
+def carrying(lines):
+    every = spelled(*EVERY_KIND)
+    size = length(every)
+    lines.say("Carrying: the run's own refusal first, then 3 and 4 of the Pauli, then 16. The output is kept.")
+    bad = spelled(starting(2), correcting((4, 0, 0)), END)
+    for p, width in (((4, 0, 0), 300), (I, 3), (I, 2)):
+        lines.ask(carry_line(bad, width, p, 10), "refused 3 at 4 kept")
+        lines.ask(carry_line(spelled(starting(2)), width, p, 10), "refused 14 at 4 kept")
+        lines.ask(carry_line(spelled(starting(12), promoting(), END), width, p, 0), "refused 15 at 4 kept")
+    good = spelled(starting(2), END)
+    none = [(2, p) for p in ((4, 0, 0), (255, 0, 0), (0, 4, 0), (0, 0, 4))]
+    none += [(257, I), (2**64 - 1, I), (3, (4, 0, 0)), (1, (0, 2, 0))]
+    for out in (10, 0):
+        for width, p in none:
+            lines.ask(carry_line(good, width, p, out), "refused 3 kept")
+        for width in (0, 1, 3, 12, 13, 64, 256):
+            lines.ask(carry_line(good, width, I, out), "refused 4 kept")
+    lines.ask(carry_line(good, 64, (3, 2**64 - 1, 2**64 - 1), 10), "refused 4 kept")
+    for out in (0, 1, 6):
+        lines.ask(carry_line(good, 2, I, out), "refused 16 kept")
+    lines.ask(carry_line(good, 2, I, 7), "carried 2 0 0x0 0x0 kept")
+    lines.ask(carry_line(every, 2, Z, size - 1), "refused 16 kept")
+    lines.say("What lies past the run is kept.")
+    for out in (size, size + 1, size + 50, 300):
+        lines.ask(carry_line(every, 2, (3, 3, 2), out))
+    lines.say("Each Pauli past each kind of step, on one qubit: rotations by X, Y, Z with either sign.")
+    paulis = [("I", I), ("X", X), ("Y", Y), ("Z", Z)]
+    for _, q in paulis:
+        for _, p in paulis:
+            for sign in (0, 1):
+                lines.ask(carry_line(spelled(starting(1), rotating(p, sign), END), 1, q, 44))
+    lines.say("Projections of X, Y, Z and their negatives, either branch.")
+    for _, (k, x, z) in paulis:
+        for _, (m, mx, mz) in paulis[1:]:
+            for minus in (0, 2):
+                for branch in (0, 1):
+                    measured = ((m + minus) % 4, mx, mz)
+                    text = spelled(starting(1), projecting(measured, 0, branch), END)
+                    lines.ask(carry_line(text, 1, (k, x, z), 37))
+    lines.say("Corrections, whatever their phase; promotions.")
+    for _, q in paulis:
+        for _, (k, x, z) in paulis:
+            for phase in (0, 1):
+                text = spelled(starting(1), correcting(((k + phase) % 4, x, z)), END)
+                lines.ask(carry_line(text, 1, q, 27))
+        lines.ask(carry_line(spelled(starting(1), promoting(), END), 1, q, 26))
+    lines.say("Dropping the pivot of two and three qubits: lowest, middle, highest.")
+    for pivot in range(3):
+        for q in ((1, 7, 5), (2, 5, 7), (0, 2, 5), (3, 5, 2), (0, 7, 0), (0, 0, 7)):
+            for p in ((0, 7, 0), (0, 0, 7), (1, 7, 2), (3, 7, 1)):
+                text = spelled(starting(3), projecting(p, pivot, 1), END)
+                lines.ask(carry_line(text, 3, q, 37))
+    lines.say("Every kind, every Pauli of two qubits.")
+    for x in range(4):
+        for z in range(4):
+            lines.ask(carry_line(every, 2, ((x + z) % 4, x, z), size))
+    lines.say("Width 12, the top qubit.")
+    top = 1 << 11
+    text = spelled(starting(12), rotating((0, top, 1)), projecting((0, top, 1), 11, 1), promoting(), END)
+    for q in ((0, 0, top), (2, top, 0), (1, 4095, 4095), (3, 0, 4095)):
+        lines.ask(carry_line(text, 12, q, 100))
+    lines.say("The scope's examples: X past a Z rotation; Z, X, Y past an X projection.")
+    examples = [
+        (rotating(Z, 0), X, "carried 1 0 0x1 0x0 24:01 kept"),
+        (projecting(X, 0, 0), Z, "carried 0 0 0x0 0x0 25:01 kept"),
+        (projecting(X, 0, 1), X, "carried 0 2 0x0 0x0 kept"),
+        (projecting(X, 0, 0), Y, "carried 0 1 0x0 0x0 25:01 kept"),
+    ]
+    for step, q, told in examples:
+        lines.ask(carry_line(spelled(starting(1), step, END), 1, q, 44), told)
+
+
+def limits():
+    lines = Lines()
+    for section in (
+        fields, starts, reads, accepted, single_rows, rows_together, wrong_fields, wrong_places,
+        two_fields, cuts, lengths, room, values, carrying,
+    ):
+        section(lines)
+    return lines.lines
+
+
+# ---------------------------------------------------------------- random runs
+
+
+def random_pauli(rng, n):
+    """Any Hermitian Pauli on n qubits."""
+    x, z = rng.randrange(2**n), rng.randrange(2**n)
+    kind = rng.randrange(4)
+    x, z = (x if kind != 1 else 0), (z if kind != 2 else 0)
+    return ((bin(x & z).count("1") + 2 * rng.randrange(2)) % 4, x, z)
+
+
+def random_unit(rng):
+    return rng.choice([rng.uniform(-1, 1)] * 4 + [0.0, -0.0, 1.0, -1.0, 0.5, -0.5, 0.6, 0.8, 5e-324])
+
+
+def random_step(rng, n, widest):
+    kinds = ["rotation"] * 3 + ["correction"] + ["promotion"] * (n < widest) * 2 + ["projection"] * (n > 0) * 2
+    kind = rng.choice(kinds)
+    if kind == "rotation":
+        return rotating(random_pauli(rng, n), rng.randrange(2), random_unit(rng), random_unit(rng)), n
+    if kind == "correction":
+        return correcting((rng.randrange(4), rng.randrange(2**n), rng.randrange(2**n))), n
+    if kind == "promotion":
+        return promoting(random_unit(rng), random_unit(rng)), n + 1
+    p = (0, 0, 0)
+    while p[1:] == (0, 0):
+        p = random_pauli(rng, n)
+    pivot = rng.choice([q for q in range(n) if (p[1] or p[2]) >> q & 1])
+    invnorm = rng.choice([1.0, 1.0, 2**0.5, 2.0, 0.5, -1.0, 1.25, 0.0, rng.uniform(0.5, 3)])
+    return projecting(p, pivot, rng.randrange(2), invnorm), n - 1
+
+
+def random_run(rng, n, steps, widest):
+    """An accepted run as a list of fields."""
+    run = [starting(n)]
+    for _ in range(steps):
+        step, n = random_step(rng, n, widest)
+        run.append(step)
+    return [*run, END]
+
+
+def random_float(rng, finite=True):
+    x = rng.choice([rng.uniform(-1, 1)] * 5 + [0.0, -0.0, 0.5, -0.5, 1.0, -1.0, 5e-324, -5e-324, 1e-310])
+    return x if finite or rng.randrange(4) else rng.choice([INFINITY, -INFINITY, NAN, 1e308])
+
+
+def random_state(rng, n, finite=True):
+    return [[random_float(rng, finite) for _ in range(2**n)] for _ in (0, 1)]
+
+
+def replay():
+    """Accepted runs on finite states, where demand 3 promises `same`; then on others."""
+    rng, lines = random.Random(3), Lines()
+    lines.say("Runs of every kind of step from 0 to 4 qubits on finite states: the same by demand 3.")
+    kinds = set()
+    for place in range(150):
+        n = place % 5
+        run = random_run(rng, n, rng.randrange(1, 9), 5)
+        kinds |= {field_of[0] for field_of in run}
+        q = (rng.randrange(4), rng.randrange(2**n), rng.randrange(2**n))
+        line = both_line(spelled(*run), n, q, *random_state(rng, n))
+        _, verdict, finite = both_sides(b"".join(run), Pauli(n, *q), *buffers_of(line))
+        assert finite and verdict == "same"
+        lines.ask(line)
+    assert kinds == {1, 2, 3, 4, 5, 6}
+    lines.say("With infinities and NaN in the state: demand 3 promises nothing.")
+    for place in range(20):
+        n = 1 + place % 3
+        run = random_run(rng, n, rng.randrange(1, 5), 4)
+        q = (rng.randrange(4), rng.randrange(2**n), rng.randrange(2**n))
+        lines.ask(both_line(spelled(*run), n, q, *random_state(rng, n, False)))
+    lines.say("0 times an infinity on one side only: X past an X projection of (0, 0), (inf, 0).")
+    state = [0.0, INFINITY], [0.0, 0.0]
+    lines.ask(both_line(spelled(starting(1), projecting(), END), 1, X, *state))
+    lines.ask(both_line(spelled(starting(1), projecting(Y), END), 1, X, *state))
+    return lines.lines
+
+
+def buffers_of(line):
+    return [[number(int(word, 16)) for word in part.split()] for part in line.split("|")[1:]]
+
+
+# ------------------------------------------------------------------ the fuzz
+
+
+def faulty(rng, run):
+    """A run with something wrong in it, as bytes."""
+    run = list(run)
+    kind = rng.choice([0, 1, 2, 2, 2, 2, 3, 4, 5, 6, 7, 8])
+    if kind == 0:  # A field left out, doubled, or two exchanged.
+        place, other = rng.randrange(len(run)), rng.randrange(len(run))
+        change = rng.randrange(3)
+        if change == 0:
+            del run[place]
+        elif change == 1:
+            run.insert(other, run[place])
+        else:
+            run[place], run[other] = run[other], run[place]
+    elif kind == 1:  # A step of another width put in.
+        step, _ = random_step(rng, rng.randrange(13), 13)
+        run.insert(rng.randrange(1, len(run) + 1), rng.choice([step, projecting(I)]))
+    elif kind == 2:  # One or two parts of a body (k, x, z, sign or pivot, branch) set to another value.
+        for _ in range(rng.randrange(1, 3)):
+            place = rng.randrange(len(run))
+            body = bytearray(run[place][3:])
+            at = rng.choice([0, 0, 1, 9, 17, 17, 18, rng.randrange(34)])
+            if at < len(body):
+                body[at] = rng.choice([0, 1, 2, 3, 4, rng.randrange(256)])
+                run[place] = framed(run[place][0], bytes(body))
+    elif kind == 3:  # A float that no row takes.
+        place = rng.randrange(len(run))
+        body, bad = run[place][3:], struct.pack("<d", rng.choice([NAN, INFINITY, -INFINITY, ABOVE_ONE, -2.0]))
+        at = {2: rng.choice([18, 26]), 3: rng.choice([0, 8]), 4: 19}.get(run[place][0])
+        if at is not None:
+            run[place] = framed(run[place][0], body[:at] + bad + body[at + 8 :])
+    elif kind == 4:  # A length or a tag that is another's.
+        place = rng.randrange(len(run))
+        tag, body = run[place][0], run[place][3:]
+        tag = rng.choice([tag, rng.randrange(8), rng.randrange(256)])
+        run[place] = framed(tag, rng.choice([body, body[:-1], body + bytes(1), body + body]))
+    whole = bytearray(b"".join(run))
+    if kind == 5 and whole:  # Cut.
+        del whole[rng.randrange(len(whole)) :]
+    elif kind == 6:  # Bytes put in or past the end.
+        at = rng.choice([len(whole), rng.randrange(len(whole) + 1)])
+        whole[at:at] = bytes(rng.choice([0, 6, rng.randrange(256)]) for _ in range(rng.randrange(1, 5)))
+    elif kind == 7:  # Bits flipped.
+        for _ in range(rng.randrange(1, 4)):
+            whole[rng.randrange(len(whole))] ^= 1 << rng.randrange(8)
+    elif kind == 8:  # Bytes of any sort.
+        whole = bytearray(rng.choice([rng.randrange(256), rng.randrange(7), 0]) for _ in range(rng.randrange(40)))
+    return bytes(whole)
+
+
+def random_text(rng, n, widest):
+    run = random_run(rng, n, rng.randrange(7), widest)
+    if rng.randrange(2):
+        return spelled(*run), b"".join(run)
+    whole = faulty(rng, run)
+    if rng.randrange(4) == 0:
+        whole = faulty(rng, [whole or END, END])
+    return spelled(whole) if whole else spelled(), whole
+
+
+def random_buffer(rng, exact):
+    size = max(0, exact + rng.choice([0, 0, 0, 0, 0, 0, -1, 1, 3, -exact]))
+    return [random_float(rng, rng.randrange(6) > 0) for _ in range(size)]
+
+
+def random_line(rng):
+    n = rng.choice([0, 1, 1, 2, 2, 2, 3, 3, 4, 11, 12])
+    widest = max(n, rng.choice([2, 3, 4, 5, 7, 12]))
+    text, run = random_text(rng, n, widest)
+    shares = {"check": 20, "run": 16, "carry": 16, "both": 8, "step": 8, "field": 4, "start": 4, "cuts": 1}
+    call = rng.choices(list(shares), list(shares.values()))[0]
+    if call in ("check", "cuts"):
+        return f"{call} {text}"
+    if call in ("field", "step", "start"):
+        at = rng.choice([0, 4, 4, 4, len(run), rng.randrange(len(run) + 4)])
+        width, limit = rng.randrange(14), rng.choice([12, 12, 12, 6, rng.randrange(15)])
+        return f"{call} {text} " + {"field": f"{at}", "start": f"{limit}", "step": f"{at} {width} {limit}"}[call]
+    try:
+        _, _, greatest, scratch = survey(run)
+    except RefusedAt:
+        greatest, scratch = rng.randrange(3), rng.randrange(3)
+    if call == "run":
+        sizes = [max(0, min(scratch, 33) + rng.choice([0, 0, 0, 0, 0, -1, 1])) for _ in (0, 1)]
+        return run_line(text, *[random_buffer(rng, min(2**greatest, 33)) for _ in (0, 1)], *sizes)
+    width = n if rng.randrange(8) else rng.choice([0, n + 1, 256, 257])
+    q = [rng.randrange(4), rng.randrange(2**n), rng.randrange(2**n)]
+    if rng.randrange(12) == 0:
+        q[rng.randrange(3)] = rng.choice([4, 2**n, 255])
+    if call == "carry":
+        out = max(0, len(run) + rng.choice([0, 0, 0, 1, 5, -1, -len(run), 250]))
+        return carry_line(text, width, q, out)
+    first = min(start(run, WIDEST) or 0, 7)  # A wider run has no room in the program's buffers.
+    return both_line(text, width, q, *random_state(rng, first, rng.randrange(5) > 0))
+
+
+def kind_of(asked, told):
+    """The call and what sort of answer it has."""
+    call, words = asked.split()[0], told.split()
+    if call == "cuts":
+        return call
+    if words[0] == "refused":
+        return f"{call} refused {words[1]}"
+    return f"{call} {words[-1] if call == 'both' else 'answered' if words[0].isdigit() else words[0]}"
+
+
+def fuzz(program, seed, count):
+    """Asks the program as many lines at a time as its buffer holds."""
+    rng, seen, batch, size, kinds = random.Random(seed), 0, [], 0, {}
+    while seen < count or batch:
+        line = random_line(rng) if seen < count else None
+        if line is None or size + len(line) + 1 > 786432:
+            given = "".join(text + "\n" for text in batch)
+            got = subprocess.run([program], input=given, capture_output=True, text=True, check=True).stdout.split("\n")
+            for asked, told in zip(batch, got):
+                wanted = answer(asked)
+                if told != wanted:
+                    print(f"differs\n{asked}\nmodel:   {wanted}\nprogram: {told}")
+                    return False
+                kind = kind_of(asked, wanted)
+                kinds[kind] = kinds.get(kind, 0) + 1
+            assert len(got) == len(batch) + 1
+            batch, size = [], 0
+        if line is not None:
+            batch.append(line)
+            seen, size = seen + 1, size + len(line) + 1
+    print(f"{seen} lines agree")
+    for kind, times in sorted(kinds.items()):
+        print(f"  {kind}: {times}")
+    return True
+
+
+def write(crates):
+    for name, lines in (("run_limits", limits()), ("frame_replay", replay())):
+        for file, texts in (("stdin", lines), ("stdout", map(answer, lines))):
+            with open(f"{crates}/{name}/{file}", "w") as out:
+                out.write("".join(text + "\n" for text in texts))
+
+
+if __name__ == "__main__":
+    command, *rest = sys.argv[1:]
+    if command == "write":
+        write(*rest)
+    elif command == "fuzz":
+        sys.exit(not fuzz(rest[0], int(rest[1]), int(rest[2])))
+    else:
+        for line in sys.stdin:
+            print(answer(line.rstrip("\n")))

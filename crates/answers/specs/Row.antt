@@ -84,7 +84,7 @@ some-not-none e = let z : _≡_ {A = ℕ} 0 1 = cc in omega arith
 refused-same : {A : Type 0} {m n : ℕ} → _≡_ {A = Answer A} (refused m) (refused n) → m ≡ n
 refused-same e = cc
 
-accepted-same : {A : Type 0} {a b : A} → accepted a ≡ accepted b → a ≡ b
+pub accepted-same : {A : Type 0} {a b : A} → accepted a ≡ accepted b → a ≡ b
 accepted-same e = cc
 
 module _ {A : Type 0} where

@@ -1,7 +1,6 @@
 -- What the loop over a run's steps keeps, and that a turn keeps it. Assumes nothing.
 use mathlib.Core.Path.{_≡_, refl, sym, ap, _∙_, subst}
 use mathlib.Core.List.{List, [], _∷_}
-use mathlib.Core.Logic.{⊎-elim}
 use Prim.Native.Nat.{ℕ, _+_, _-_, _≤_, _<_}
 use native.Mathlib.Omega.{arith}
 use lib.Ieee.{Float}
@@ -22,14 +21,14 @@ use Rattle.runlaws.specs.Flags.{fieldSize, flagAt, flagged}
 use Rattle.runlaws.specs.Reading.{Cursor, readAt}
 use Rattle.runlaws.specs.Run.{walk}
 use Rattle.runlaws.specs.Reading.Read.{stepRead}
-use Rattle.runlaws.specs.Walk.{Left, left-outset, accepted-step, accepted-end, accepted-refused}
+use Rattle.runlaws.specs.Walk.{Left, left-outset, accepted-step}
 use Rattle.runlaws.specs.Fields.{step-read, size-ge}
 use Rattle.runlaws.specs.WholeRun.{run-allowed}
 use Rattle.runlaws.specs.Flagged.{flag-length, carried-size}
+use Rattle.steps.proofs.Ended.{none-left}
 use Rattle.steps.proofs.Read.{the-type}
 use Rattle.steps.specs.declared.Read as declared
-use Rattle.steps.specs.declared.Read.the-variants as read
-use Rattle.steps.specs.Meant.{cursorOf, readTold}
+use Rattle.steps.specs.Meant.{readTold}
 use Rattle.carrier.specs.Suited.{Suited}
 use Rattle.carrier.specs.Ready.{runIn, Ready}
 
@@ -111,13 +110,11 @@ module _ {limit : ℕ} {s : List ℕ} {last : Pauli} {all : List ℕ} {c : Curso
         → Carrying limit s last all d Q' out'
     turn small t' Q' out' is passes writes = rw (writes, is, passes) (turned small)
 
-  none-left : w .steps ≡ [] → (Q ≡ last) × (out ≡ all)
+  all-passed : w .steps ≡ [] → (Q ≡ last) × (out ≡ all)
   unfolding endPauli carriedSteps flagged
-  none-left e =
+  all-passed e =
       (ap (endPauli Q) (sym e) ∙ w .ends, ap (λ (ts : List (Step Float)). flagged (c .at) (carriedSteps Q ts) out) (sym e) ∙ w .writes)
 
   -- what is no step is the end: a run that was accepted has no refusal
   pub finished : (r : declared.Read) → readTold r ≡ readAt limit s c → OneOf (1 ∷ 2 ∷ []) (tagOf the-type r) → (Q ≡ last) × (out ≡ all)
-  finished (read.Step t d) e k = absurd (⊎-elim (λ e. omega arith) (λ e. omega arith) k)
-  finished (read.End d) e k = none-left (accepted-end (w .left) (cursorOf d) (sym e))
-  finished (read.Refused n at) e k = absurd (accepted-refused (w .left) n at (sym e))
+  finished r e k = all-passed (none-left (w .left) r e k)

@@ -10,7 +10,7 @@ use lib.Dec.{T, lit≤}
 use lib.Ieee.{Float, ofBits, neg, add, sub, mul, le}
 use lib.ListN.{length, take}
 use Rattle.answers.specs.Answer.Answer.{accepted}
-use Rattle.answers.specs.Row.{row, first, answered, left}
+use Rattle.answers.specs.Row.{row, first, answered, left, accepted-same}
 use Rattle.bitlaws.specs.Digit.{digit}
 use Rattle.bitlaws.specs.Opening.{openBit, dropBit}
 use Rattle.bitlaws.specs.Parity.{overlap, parity}
@@ -158,11 +158,8 @@ finite-steps : FiniteSteps 1 carriedList there
 unfolding stepped widthAfter leaves.rotation leaves.promotion leaves.projection leaves.correction leaves.scratchAfter leaves.scratchBy written point over rotated rotatedBy rotatedAlone rotatedWith rotationCoefficient promoted raisedQubit projected remaining remainingBy projectionCoefficient minus source corrected quarters power times conjugate direction negated scale scaled mixed openBit overlap parity ones onesIn digit neg add sub mul ofBits
 finite-steps = (single _ (tt, tt) (tt, tt), (single _ (tt, tt) (tt, tt), (single _ (tt, tt) (tt, tt), (single _ (tt, tt) (tt, tt), (double _ (tt, tt) (tt, tt) (tt, tt) (tt, tt), (single _ (tt, tt) (tt, tt), (none _ (tt, tt), (single _ (tt, tt) (tt, tt), single _ (tt, tt) (tt, tt)))))))))
 
-run-same : {R R' : Run} → accepted R ≡ accepted R' → R ≡ R'
-run-same e = cc
-
 finite-run : FiniteRun widestRun carried there
-finite-run R e = subst (λ (r : Run). FiniteSteps (r .width) (r .steps) there) (run-same (sym reads ∙ e)) finite-steps
+finite-run R e = subst (λ (r : Run). FiniteSteps (r .width) (r .steps) there) (accepted-same (sym reads ∙ e)) finite-steps
 
 -- ---- what comes of them
 

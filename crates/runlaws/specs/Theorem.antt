@@ -14,7 +14,7 @@ use lib.ListN.{length, take, drop}
 use lib.Seq.{take-at}
 use borrow.Author.Tests.{le-ltb}
 use Rattle.answers.specs.Answer.Answer.{accepted}
-use Rattle.answers.specs.Row.{row, first}
+use Rattle.answers.specs.Row.{row, first, accepted-same}
 use Rattle.floatlaws.specs.Same.{isZero, same-says}
 use Rattle.paulilaws.specs.Pauli.{Pauli, mostQubits}
 use Rattle.paulilaws.specs.Fitting.{Fitting, fitting-fits}
@@ -71,9 +71,6 @@ pub record Frame (limit : ℕ) (s t : List ℕ) (Q end : Pauli) (m u : Memory) (
       → let one = point (running limit s (fired Q m) .lent .state) b in let other = point (correction end (running limit t u .lent .state)) b in SameNumber (one .re) (other .re) × SameNumber (one .im) (other .im)
 
 -- ---- what the rows of the calls let pass
-
-accepted-same : {A : Type 0} {a b : A} → accepted a ≡ accepted b → a ≡ b
-accepted-same e = cc
 
 room-row : (v : Survey) (m : Memory) → room (v .greatest) (m .state) ≡ true → scratchRoom (v .scratch) (m .scratch) ≡ true → memoryRow v m ≡ 0
 unfolding memoryRow roomRow row

@@ -1,8 +1,7 @@
 -- What the loop over a run's steps keeps: the steps that are left do to the memory as it is what the whole run does to the memory as it was. Assumes nothing.
 use mathlib.Core.Path.{_≡_, sym, ap, ap₂, _∙_, subst}
 use mathlib.Core.List.{List, [], _∷_}
-use mathlib.Core.Logic.{⊎-elim}
-use mathlib.Core.Option.{none, some}
+use mathlib.Core.Option.{none, some, Option·some-injective, Option·none-ne-some}
 use Prim.Native.Nat.{ℕ, _<_, _-_, _≤_}
 use native.Mathlib.Omega.{arith}
 use lib.Ieee.{Float}
@@ -21,13 +20,13 @@ use Rattle.runlaws.specs.Reading.Read.{stepRead}
 use Rattle.runlaws.specs.Run.{startWidth}
 use Rattle.runlaws.specs.Calls.{surveyOf, running}
 use Rattle.runlaws.specs.Outcomes.{running-answers}
-use Rattle.runlaws.specs.Walk.{Left, left-outset, accepted-step, accepted-end, accepted-refused}
+use Rattle.runlaws.specs.Walk.{Left, left-outset, accepted-step}
 use Rattle.runlaws.specs.Fields.{step-read, size-ge}
 use Rattle.runlaws.specs.WholeRun.{run-allowed}
+use Rattle.steps.proofs.Ended.{none-left}
 use Rattle.steps.proofs.Read.{the-type}
 use Rattle.steps.specs.declared.Read as declared
-use Rattle.steps.specs.declared.Read.the-variants as read
-use Rattle.steps.specs.Meant.{cursorOf, readTold}
+use Rattle.steps.specs.Meant.{readTold}
 use Rattle.runner.specs.Ready.{Ready, ReadyRun}
 use Rattle.runner.proofs.Rooms.{Rooms, rooms-passed, rooms-before, rooms-behind, rooms-scratch, rooms-rest}
 
@@ -37,12 +36,6 @@ pub record Underway (limit : ℕ) (s : List ℕ) (m₀ : Memory) (c : Cursor) (m
   pub left : Left limit s c (accepted steps)
   pub same : ran (c .width) steps m ≡ running limit s m₀ .lent
   pub rooms : Rooms (survey (c .width) steps) m
-
-none-some : {n : ℕ} → none ≡ some n → ⊥
-none-some e = let z : _≡_ {A = ℕ} 0 1 = cc in omega arith
-
-same-some : {m n : ℕ} → some m ≡ some n → m ≡ n
-same-some e = cc
 
 module _ {limit : ℕ} {s : List ℕ} {m₀ : Memory} where
   module _ (r : ReadyRun limit s m₀) where
@@ -56,13 +49,13 @@ module _ {limit : ℕ} {s : List ℕ} {m₀ : Memory} where
     starts = run-allowed limit s (r .run) (r .is) .start
 
     pub no-start : startWidth limit (fieldAt s 0) ≡ none → ⊥
-    no-start e = none-some (sym e ∙ starts)
+    no-start e = Option·none-ne-some _ (sym e ∙ starts)
 
     pub underway-outset : (n : ℕ) → startWidth limit (fieldAt s 0) ≡ some n → Underway limit s m₀ (record { at = 4; width = n }) m₀
     unfolding surveyOf
     underway-outset n e =
         let read = run-allowed limit s (r .run) (r .is) in
-        let width : n ≡ r .run .width = same-some (sym e ∙ starts) in
+        let width : n ≡ r .run .width = Option·some-injective _ _ (sym e ∙ starts) in
         rw width (record {
           steps = r .run .steps;
           left = rw (← read .walked) (left-outset limit s (record { at = 4; width = r .run .width }) (read .begins));
@@ -106,12 +99,10 @@ module _ {limit : ℕ} {s : List ℕ} {m₀ : Memory} where
           let read = step-read limit s c d t e in
           omega (arith, read .next, read .inside, size-ge t)
 
-    none-left : u .steps ≡ [] → m ≡ running limit s m₀ .lent
+    all-taken : u .steps ≡ [] → m ≡ running limit s m₀ .lent
     unfolding ran
-    none-left e = ap (λ (ts : List (Step Float)). ran (c .width) ts m) (sym e) ∙ u .same
+    all-taken e = ap (λ (ts : List (Step Float)). ran (c .width) ts m) (sym e) ∙ u .same
 
     -- what is no step is the end: a run that was accepted has no refusal
     pub underway-end : (r : declared.Read) → readTold r ≡ readAt limit s c → OneOf (1 ∷ 2 ∷ []) (tagOf the-type r) → m ≡ running limit s m₀ .lent
-    underway-end (read.Step t d) e k = absurd (⊎-elim (λ e. omega arith) (λ e. omega arith) k)
-    underway-end (read.End d) e k = none-left (accepted-end (u .left) (cursorOf d) (sym e))
-    underway-end (read.Refused n at) e k = absurd (accepted-refused (u .left) n at (sym e))
+    underway-end r e k = all-taken (none-left (u .left) r e k)

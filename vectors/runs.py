@@ -6,9 +6,10 @@
     runs.py fuzz PROGRAM SEED COUNT      COUNT random calls asked of PROGRAM (target/bin/run_limits) as well:
                                          the first line that differs, or how many answers of each kind agree
 
-Written from the scope's text alone (document 01), which the comments quote; it
-shares nothing with the Rattle or the Rust. The kernels' steps are those of
-model.py.
+Written from the scope's text (document 01), which the comments quote, without
+the Rattle's definitions of runs; its writer had seen the Rattle code of reader
+and checker before. It shares no code with the Rattle or the Rust. The kernels'
+steps are those of model.py.
 
 A call is its name, a run, numbers (masks after 0x), then the lent buffers as in
 model.py, a bar before each. A run is hexadecimal digits in pieces with commas
@@ -70,7 +71,10 @@ def start(run, limit):
 def step_of(tag, body, width, limit):
     """The step that a field of the right length is, and the width behind it."""
     if tag == 3:
+        # The kernel's own rows first, as for the other steps.
         c, q = struct.unpack("<dd", body)
+        refuse(3, width > 256)
+        refuse(6, width > 60)
         model.check_units(c, q)
         refuse(15, width >= limit)
         return ("promotion", c, q), width + 1
@@ -520,6 +524,16 @@ def reads(lines):
     lines.ask(f"step {text} 41 2 2", "refused 15 at 41")
     lines.ask(f"step {text} 41 2 3", f"promotion {shown(0.6)} {shown(0.8)} 60 3")
     lines.ask(f"step {text} 41 0 0", "refused 15 at 41")
+    lines.say("A promotion past its kernel's widths, under a limit of 300: 60 is taken, 6 from 61 on, 3 from 257 on.")
+    lines.ask(f"step {text} 41 60 300", f"promotion {shown(0.6)} {shown(0.8)} 60 61")
+    for width, row in ((61, 6), (256, 6), (257, 3), (300, 3)):
+        lines.ask(f"step {text} 41 {width} 300", f"refused {row} at 41")
+    lines.say("The width's rows come before 8 and 15.")
+    unfit = spelled(promoting(NAN, 0.8))
+    for width, row in ((60, 8), (61, 6), (257, 3)):
+        lines.ask(f"step {unfit} 0 {width} 12", f"refused {row} at 0")
+    lines.ask(f"step {text} 41 60 60", "refused 15 at 41")
+    lines.ask(f"step {text} 41 61 61", "refused 6 at 41")
 
 
 def accepted(lines):

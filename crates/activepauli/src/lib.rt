@@ -38,8 +38,8 @@ impl ActivePauli {
     {
         (self.phase <= 3)
             & (self.nqubits <= 256)
-            & bits::mask::word_fits(self.x, self.nqubits)
-            & bits::mask::word_fits(self.z, self.nqubits)
+            & masks::word_fits(self.x, self.nqubits)
+            & masks::word_fits(self.z, self.nqubits)
     }
 
     // The product, in which `rhs` acts first.

@@ -8,6 +8,11 @@ pub mod Probability
 pub mod State
 pub mod Sweeping
 pub mod Pairing
+pub mod Step
+pub mod Acting
+pub mod Near
+pub mod Valued
 pub mod Steps
 pub mod Rows
 pub mod Passed
+pub mod Book

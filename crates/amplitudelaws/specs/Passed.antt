@@ -1,6 +1,6 @@
 -- What is known of the arguments of a call that no row refuses. Assumes nothing.
 use mathlib.Core.Path.{_≡_}
-use mathlib.Core.Bool.{Bool, true, false, cond, not, _&&_}
+use mathlib.Core.Bool.{Bool, true, false, cond, not}
 use Prim.Native.Nat.{ℕ, _^_, _≤_, _<_}
 use lib.Dec.{leb, ltb, eqb, lit<}
 use lib.Ieee.{Float}
@@ -12,7 +12,7 @@ use Rattle.paulilaws.specs.Pauli.{Pauli, fits, hermitian, mostQubits}
 use Rattle.paulilaws.specs.Fitting.{Fitting, fits-fitting, both-left, both-right}
 use Rattle.statelaws.specs.Pairs.{Pivoted}
 use Rattle.amplitudelaws.specs.Rows.{widthRow, hermitianRow, unitRow, rotationKernelRow, pivotMask, pivotRow, measurementRow, roomRow, promotedWidthRow, widestKernel, widestPromotion}
-use Rattle.amplitudelaws.specs.State.{State, room}
+use Rattle.amplitudelaws.specs.State.{State, roomFor, room}
 
 module _ (widest : ℕ) (P : Pauli) where
   pub width-passed : widthRow widest P ≡ 0 → Fitting P × (P .n ≤ widest)
@@ -25,6 +25,10 @@ module _ (widest : ℕ) (P : Pauli) where
   pub hermitian-passed : hermitianRow widest P ≡ 0 → Fitting P × (P .n ≤ widest)
   unfolding hermitianRow
   hermitian-passed e = width-passed (first-passed (widthRow widest P) (row (not (hermitian P)) 7 0) e .0)
+
+  pub hermitian-real : hermitianRow widest P ≡ 0 → hermitian P ≡ true
+  unfolding hermitianRow
+  hermitian-real e = not-false (hermitian P) (row-passed (not (hermitian P)) 7 0 (lit< tt) (first-passed (widthRow widest P) _ e .1) .0)
 
 module _ (M : Pauli) (p : ℕ) where
   masked : Fitting M → pivotMask M < 2 ^ M .n
@@ -64,14 +68,17 @@ unfolding rotationKernelRow
 rotation-passed P c s e =
     hermitian-passed widestKernel P (first-passed (hermitianRow widestKernel P) (unitRow c s) e .0)
 
--- both lists have the room
+-- both lists are long enough
+pub room-lengths : (k : ℕ) (S : State) → roomFor k S ≡ true → (k ≤ length (S .re)) × (k ≤ length (S .im))
+unfolding roomFor
+room-lengths k S e =
+    let re = leb k (length (S .re)) in
+    let im = leb k (length (S .im)) in
+    (leb-true k (length (S .re)) (both-left re im e), leb-true k (length (S .im)) (both-right re im e))
+
 pub room-passed : (n : ℕ) (S : State) → roomRow (room n S) ≡ 0 → (2 ^ n ≤ length (S .re)) × (2 ^ n ≤ length (S .im))
 unfolding roomRow room
-room-passed n S e =
-    let enough = not-false (room n S) (row-passed (not (room n S)) 13 0 (lit< tt) e .0) in
-    let re = leb (2 ^ n) (length (S .re)) in
-    let im = leb (2 ^ n) (length (S .im)) in
-    (leb-true (2 ^ n) (length (S .re)) (both-left re im enough), leb-true (2 ^ n) (length (S .im)) (both-right re im enough))
+room-passed n S e = room-lengths (2 ^ n) S (not-false (room n S) (row-passed (not (room n S)) 13 0 (lit< tt) e .0))
 
 pub promoted-width-passed : (n : ℕ) → promotedWidthRow n ≡ 0 → n ≤ widestPromotion
 unfolding promotedWidthRow

@@ -27,6 +27,10 @@ setPoint b a S = record { re = set (S .re) b (a .re); im = set (S .im) b (a .im)
 unfoldable pub written : ℕ → (ℕ → Point) → State → State
 written n F S = record { re = over (2 ^ n) (λ b. F b .re) (S .re); im = over (2 ^ n) (λ b. F b .im) (S .im) }
 
--- both lists have room for n qubits
+-- both lists have room for k amplitudes
+unfoldable pub roomFor : ℕ → State → Bool
+roomFor k S = leb k (length (S .re)) && leb k (length (S .im))
+
+-- and for those of n qubits
 unfoldable pub room : ℕ → State → Bool
-room n S = leb (2 ^ n) (length (S .re)) && leb (2 ^ n) (length (S .im))
+room n S = roomFor (2 ^ n) S

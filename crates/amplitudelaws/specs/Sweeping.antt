@@ -1,5 +1,5 @@
 -- A loop over the amplitudes of n qubits, in place: what it has done after t turns. Assumes nothing.
-use mathlib.Core.Path.{_≡_, ap, _∙_}
+use mathlib.Core.Path.{_≡_, ap}
 use Prim.Native.Nat.{ℕ, _+_, _-_, _^_, _≤_, _<_}
 use lib.Bits.{bitXor}
 use lib.Ieee.{nan}
@@ -11,8 +11,8 @@ use Rattle.statelaws.specs.Pairs.{Pivoted, low-ahead, high-ahead, swept-pair, s
 use Rattle.amplitudelaws.specs.Binary.{Point}
 use Rattle.amplitudelaws.specs.State.{State, point, setPoint, written}
 
-pub state : {S T : State} → S .re ≡ T .re → S .im ≡ T .im → S ≡ T
-state r i = λ j. record { re = r j; im = i j }
+pub state-same : {S T : State} → S .re ≡ T .re → S .im ≡ T .im → S ≡ T
+state-same r i = λ j. record { re = r j; im = i j }
 
 pub point-same : {a b : Point} → a .re ≡ b .re → a .im ≡ b .im → a ≡ b
 point-same r i = λ j. record { re = r j; im = i j }
@@ -41,7 +41,7 @@ module _ {F : ℕ → Point} {n : ℕ} {S₀ : State} {t : ℕ} {S : State} (s :
 
   pub one-all : t ≡ 2 ^ n → S ≡ written n F S₀
   unfolding written
-  one-all e = state (rising-all (s .re) e) (rising-all (s .im) e)
+  one-all e = state-same (rising-all (s .re) e) (rising-all (s .im) e)
 
 -- two amplitudes a turn: the pair of the basis t without the pivot
 module _ {n p x : ℕ} (v : Pivoted n p x) {F : ℕ → Point} {S₀ : State} {t : ℕ} {S : State} (s : Sweeping (pairOf p x) F n S₀ t S) where
@@ -64,4 +64,4 @@ module _ {n p x : ℕ} (v : Pivoted n p x) {F : ℕ → Point} {S₀ : State} {t
 
   pub pair-all : t ≡ 2 ^ (n - 1) → S ≡ written n F S₀
   unfolding written
-  pair-all e = state (swept-pairs v (s .re) e) (swept-pairs v (s .im) e)
+  pair-all e = state-same (swept-pairs v (s .re) e) (swept-pairs v (s .im) e)

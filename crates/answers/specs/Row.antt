@@ -5,7 +5,7 @@ use Prim.Native.Nat.{ℕ, zero, suc, _<_}
 use native.Mathlib.Nat.{zero-lt-suc}
 use native.Mathlib.Omega.{arith}
 use Rattle.answers.specs.Answer.{Answer}
-use Rattle.answers.specs.Answer.Answer.{accepted, refused}
+use Rattle.answers.specs.Answer.Answer.{accepted, refused, refusedAt}
 
 -- row n: where its test holds it is n, else the rows after it decide
 unfoldable pub row : Bool → ℕ → ℕ → ℕ
@@ -29,13 +29,15 @@ left (suc n) new old = old
 
 -- ---- where a row refuses, and where none does
 
+-- what holds of every number that refuses holds of one above 0
+by-some : (P : ℕ → Type 0) → ((n : ℕ) → P (suc n)) → (r : ℕ) → 0 < r → P r
+by-some P h zero l = absurd (omega arith)
+by-some P h (suc r) l = h r
+
 module _ (r : ℕ) where
   pub first-some : (rest : ℕ) → 0 < r → first r rest ≡ r
-  first-some rest h = go r h
-    where
-      go : (r : ℕ) → 0 < r → first r rest ≡ r
-      go zero h = absurd (omega arith)
-      go (suc r) h = unfold first in refl
+  unfolding first
+  first-some rest h = by-some (λ r. first r rest ≡ r) (λ n. refl) r h
 
   pub first-none : (rest : ℕ) → r ≡ 0 → first r rest ≡ rest
   unfolding first
@@ -43,22 +45,16 @@ module _ (r : ℕ) where
 
   module _ {A : Type 0} where
     pub answered-some : (a : A) → 0 < r → answered r a ≡ refused r
-    answered-some a h = go r h
-      where
-        go : (r : ℕ) → 0 < r → answered r a ≡ refused r
-        go zero h = absurd (omega arith)
-        go (suc r) h = unfold answered in refl
+    unfolding answered
+    answered-some a h = by-some (λ r. answered r a ≡ refused r) (λ n. refl) r h
 
     pub answered-none : (a : A) → r ≡ 0 → answered r a ≡ accepted a
     unfolding answered
     answered-none a e = rw e
 
     pub left-some : (new old : A) → 0 < r → left r new old ≡ old
-    left-some new old h = go r h
-      where
-        go : (r : ℕ) → 0 < r → left r new old ≡ old
-        go zero h = absurd (omega arith)
-        go (suc r) h = unfold left in refl
+    unfolding left
+    left-some new old h = by-some (λ r. left r new old ≡ old) (λ n. refl) r h
 
     pub left-none : (new old : A) → r ≡ 0 → left r new old ≡ new
     unfolding left
@@ -78,8 +74,11 @@ first-passed (suc r) rest e = absurd (omega arith)
 
 -- ---- and what an answer says about them
 
-some-not-none : {A : Type 0} {a : A} {n : ℕ} → refused n ≡ accepted a → ⊥
-some-not-none e = let z : _≡_ {A = ℕ} 0 1 = cc in omega arith
+pub refused-accepted : {A : Type 0} {a : A} {n : ℕ} → refused n ≡ accepted a → ⊥
+refused-accepted e = let z : _≡_ {A = ℕ} 0 1 = cc in omega arith
+
+pub refusedAt-accepted : {A : Type 0} {a : A} {n i : ℕ} → refusedAt n i ≡ accepted a → ⊥
+refusedAt-accepted e = let z : _≡_ {A = ℕ} 0 1 = cc in omega arith
 
 refused-same : {A : Type 0} {m n : ℕ} → _≡_ {A = Answer A} (refused m) (refused n) → m ≡ n
 refused-same e = cc
@@ -90,13 +89,13 @@ accepted-same e = cc
 module _ {A : Type 0} where
   pub refused-row : (r : ℕ) (a : A) (n : ℕ) → refused n ≡ answered r a → (r ≡ n) × (0 < n)
   unfolding answered
-  refused-row zero a n e = absurd (some-not-none e)
+  refused-row zero a n e = absurd (refused-accepted e)
   refused-row (suc r) a n e = let same : suc r ≡ n = sym (refused-same e) in (same, omega (arith, zero-lt-suc r))
 
   pub accepted-row : (r : ℕ) (a b : A) → accepted b ≡ answered r a → (r ≡ 0) × (b ≡ a)
   unfolding answered
   accepted-row zero a b e = (refl, accepted-same e)
-  accepted-row (suc r) a b e = absurd (some-not-none (sym e))
+  accepted-row (suc r) a b e = absurd (refused-accepted (sym e))
 
 -- ---- a call that looks at its rows, is refused by the number r that they give, and else does its work
 

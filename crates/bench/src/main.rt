@@ -1,6 +1,6 @@
 // Reads one run from standard input, runs it from amplitude (1, 0) at basis 0, and prints `qubits` and
 // the last width, then each basis with the bits of its two parts; or `refused` and the number.
-mod listing;
+mod print;
 
 use libc::STDIN_FILENO;
 use libc::STDOUT_FILENO;
@@ -24,8 +24,8 @@ fn main() {
         &mut scratch_im,
     );
     match answer {
-        RunAnswer::Finished { width, steps: _ } => listing::state(&re, &im, width),
-        RunAnswer::Refused(row) => listing::refused(row),
-        RunAnswer::RefusedAt(row, _) => listing::refused(row),
+        RunAnswer::Finished { width, steps: _ } => print::state(&re, &im, width),
+        RunAnswer::Refused(row) => print::refused(row),
+        RunAnswer::RefusedAt(row, _) => print::refused(row),
     }
 }

@@ -1,6 +1,7 @@
 -- The binary digits of a number, or of a mask: reading one, and writing one. Assumes nothing.
 use mathlib.Core.Path.{_≡_, refl, sym, ap, ap₂, _∙_}
 use mathlib.Core.Bool.{Bool, true, false}
+use mathlib.Core.Logic.{_⊎_, inl, inr}
 use Prim.Native.Nat.{ℕ, zero, suc, _+_, _-_, _*_, _/_, _%_, _^_, _≤_, _<_}
 use native.Mathlib.Nat.{mod-lt, zero-lt-suc, div-eq-of-lt, div-one, div-add-mod', pow-suc, one-mul}
 use native.Mathlib.Omega.{arith}
@@ -25,13 +26,26 @@ pub bit-odd : (t : Bool) → eqb (bitOf t % 2) 1 ≡ t
 bit-odd true = refl
 bit-odd false = refl
 
+-- what holds of 0 and of 1 holds of a digit
+pub by-digit : (P : ℕ → Type 0) → P 0 → P 1 → (d : ℕ) → d < 2 → P d
+by-digit P h k zero l = h
+by-digit P h k (suc zero) l = k
+by-digit P h k (suc (suc d)) l = absurd (omega arith)
+
 -- a remainder by 2 is a digit
 pub mod-two : (n : ℕ) → n % 2 < 2
 mod-two n = mod-lt n (zero-lt-suc 1)
 
+-- and one by 2 ^ q has q of them
+pub mod-power : (q a : ℕ) → a % 2 ^ q < 2 ^ q
+mod-power q a = mod-lt a (pow-pos q)
+
 pub digit-lt : (q a : ℕ) → digit q a < 2
 unfolding digit
 digit-lt q a = mod-two (a / 2 ^ q)
+
+pub set-or-clear : (q a : ℕ) → (digit q a ≡ 1) ⊎ (digit q a ≡ 0)
+set-or-clear q a = by-digit (λ d. (d ≡ 1) ⊎ (d ≡ 0)) (inr refl) (inl refl) (digit q a) (digit-lt q a)
 
 -- a number below 2 ^ n has no digit from n on
 pub digit-above : (n q a : ℕ) → a < 2 ^ n → n ≤ q → digit q a ≡ 0

@@ -10,7 +10,7 @@ use native.Mathlib.Omega.{arith}
 use lib.Dec.{eqb}
 use borrow.Author.Tests.{eq-eqb, ne-eqb}
 use Rattle.bitlaws.specs.Order.{last-or-before}
-use Rattle.bitlaws.specs.Digit.{digit, digit-lt, digit-above}
+use Rattle.bitlaws.specs.Digit.{digit, set-or-clear, digit-above}
 
 -- the highest of the n lowest digits of a that is set, none where none is
 unfoldable pub highest : ℕ → ℕ → Option ℕ
@@ -63,15 +63,14 @@ highest-top (suc n) a q e =
       set = ap (λ (m : ℕ). digit m a) (sym same) ∙ d;
       above = λ r l m. absurd (omega arith);
     })
-    (λ (d : digit n a < 1).
-    let clear : digit n a ≡ 0 = omega arith in
+    (λ (clear : digit n a ≡ 0).
     let rest : Top n a q = highest-top n a q (sym (step-clear n a clear) ∙ e) in
     record {
       inside = omega (arith, rest .inside);
       set = rest .set;
       above = λ r l m. ⊎-elim (λ (h : r ≡ n). ap (λ (k : ℕ). digit k a) h ∙ clear) (λ (h : r < n). rest .above r l h) (last-or-before m);
     })
-    (last-or-before (digit-lt n a))
+    (set-or-clear n a)
 
 -- and where it answers none, nothing is set
 pub none-set : (n a : ℕ) → highest n a ≡ none → (r : ℕ) → r < n → digit r a ≡ 0
@@ -79,10 +78,9 @@ none-set zero a e r h = absurd (omega arith)
 none-set (suc n) a e r h =
     ⊎-elim
     (λ (d : digit n a ≡ 1). absurd (some-none (sym (step-set n a d) ∙ e)))
-    (λ (d : digit n a < 1).
-    let clear : digit n a ≡ 0 = omega arith in
+    (λ (clear : digit n a ≡ 0).
     ⊎-elim (λ (s : r ≡ n). ap (λ (k : ℕ). digit k a) s ∙ clear) (λ (s : r < n). none-set n a (sym (step-clear n a clear) ∙ e) r s) (last-or-before h))
-    (last-or-before (digit-lt n a))
+    (set-or-clear n a)
 
 -- between two powers of two
 pub power-top : (n a q : ℕ) → q < n → 2 ^ q ≤ a → a < 2 ^ suc q → Top n a q

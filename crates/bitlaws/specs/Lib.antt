@@ -1,5 +1,6 @@
 pub mod Order
 pub mod Digit
+pub mod Bitwise
 pub mod Xor
 pub mod Parity
 pub mod Opening

@@ -1,11 +1,11 @@
 -- A bit of a mask opened, and dropped, at any place. Assumes nothing.
 use mathlib.Core.Path.{_≡_, ap, _∙_, subst}
 use Prim.Native.Nat.{ℕ, suc, _+_, _-_, _*_, _/_, _%_, _^_, _≤_, _<_}
-use native.Mathlib.Nat.{mod-lt, mod-eq-of-lt, div-eq-of-lt, div-add-mod', mul-right-comm, pow-suc}
+use native.Mathlib.Nat.{mod-eq-of-lt, div-eq-of-lt, div-add-mod', mul-right-comm, pow-suc}
 use native.Mathlib.Omega.{arith}
 use lib.Arith.{digits-lt, digits-div, digits-mod}
-use lib.Pow.{pow-pos, pow-add, shr-lt}
-use Rattle.bitlaws.specs.Digit.{digit, put}
+use lib.Pow.{pow-add, shr-lt}
+use Rattle.bitlaws.specs.Digit.{mod-power, digit, put}
 
 -- j with a zero bit opened at p: the bits below p stay, the others move up one
 unfoldable pub openBit : ℕ → ℕ → ℕ
@@ -16,25 +16,22 @@ unfoldable pub dropBit : ℕ → ℕ → ℕ
 dropBit p b = b / 2 ^ p / 2 * 2 ^ p + b % 2 ^ p
 
 module _ (p : ℕ) where
-  below : (a : ℕ) → a % 2 ^ p < 2 ^ p
-  below a = mod-lt a (pow-pos p)
-
   -- what stands from p on, and below p, after opening and after dropping
   open-div : (j : ℕ) → openBit p j / 2 ^ p ≡ j / 2 ^ p * 2
   unfolding openBit
-  open-div j = digits-div (j / 2 ^ p * 2) (below j)
+  open-div j = digits-div (j / 2 ^ p * 2) (mod-power p j)
 
   open-mod : (j : ℕ) → openBit p j % 2 ^ p ≡ j % 2 ^ p
   unfolding openBit
-  open-mod j = digits-mod (j / 2 ^ p * 2) (below j)
+  open-mod j = digits-mod (j / 2 ^ p * 2) (mod-power p j)
 
   pub drop-div : (b : ℕ) → dropBit p b / 2 ^ p ≡ b / 2 ^ p / 2
   unfolding dropBit
-  drop-div b = digits-div (b / 2 ^ p / 2) (below b)
+  drop-div b = digits-div (b / 2 ^ p / 2) (mod-power p b)
 
   pub drop-mod : (b : ℕ) → dropBit p b % 2 ^ p ≡ b % 2 ^ p
   unfolding dropBit
-  drop-mod b = digits-mod (b / 2 ^ p / 2) (below b)
+  drop-mod b = digits-mod (b / 2 ^ p / 2) (mod-power p b)
 
   -- above all bits of j there is nothing to move
   pub open-small : (j : ℕ) → j < 2 ^ p → openBit p j ≡ j
@@ -79,7 +76,7 @@ module _ (p : ℕ) where
     open-lt j h =
         let q : j / 2 ^ p < 2 ^ (n - p) = shr-lt (n - p) p (subst (λ (m : ℕ). j < 2 ^ m) split h) in
         let r : j / 2 ^ p * 2 < 2 ^ (n - p) * 2 = omega arith in
-        rw twice (digits-lt r (below j))
+        rw twice (digits-lt r (mod-power p j))
 
     pub drop-lt : (b : ℕ) → b < 2 ^ suc n → dropBit p b < 2 ^ n
     unfolding dropBit
@@ -87,4 +84,4 @@ module _ (p : ℕ) where
         let above : suc n ≡ suc (n - p) + p = omega arith in
         let q : b / 2 ^ p < 2 ^ suc (n - p) = shr-lt (suc (n - p)) p (subst (λ (m : ℕ). b < 2 ^ m) above h) in
         let r : b / 2 ^ p / 2 < 2 ^ (n - p) = omega (arith, pow-suc 2 (n - p)) in
-        rw whole (digits-lt r (below b))
+        rw whole (digits-lt r (mod-power p b))

@@ -5,9 +5,9 @@ use Prim.Native.Nat.{ℕ, suc, _+_, _*_, _%_, _^_, _≤_, _<_}
 use native.Mathlib.Nat.{zero-mul, one-mul}
 use native.Mathlib.Omega.{arith}
 use lib.Bits.{bitXor, xor-zero-r}
-use Rattle.bitlaws.specs.Order.{last-or-before}
-use Rattle.bitlaws.specs.Digit.{digit, digit-lt}
-use Rattle.bitlaws.specs.Xor.{xor-lt, xor-twice, digit-xor}
+use Rattle.bitlaws.specs.Digit.{digit, set-or-clear}
+use Rattle.bitlaws.specs.Bitwise.{digit-xor}
+use Rattle.bitlaws.specs.Xor.{xor-lt, xor-twice}
 use Rattle.bitlaws.specs.Opening.{openBit, dropBit, open-clear, drop-open, open-drop-clear, drop-lt}
 
 -- the number of the pair that b is in: of b and b xor x the one whose bit p is clear, without that bit
@@ -23,9 +23,6 @@ module _ (p x : ℕ) where
   unfolding pairOf
   of-clear b e = ap (λ (m : ℕ). dropBit p (bitXor b m)) (ap (λ (m : ℕ). m * x) e ∙ zero-mul x) ∙ ap (dropBit p) (xor-zero-r b)
 
-  either : (b : ℕ) → (digit p b ≡ 1) ⊎ (digit p b ≡ 0)
-  either b = ⊎-elim (λ (e : digit p b ≡ 1). inl e) (λ (h : digit p b < 1). inr (omega arith)) (last-or-before (digit-lt p b))
-
   pub pair-low : (t : ℕ) → pairOf p x (openBit p t) ≡ t
   pair-low t = of-clear (openBit p t) (open-clear p t) ∙ drop-open p t
 
@@ -33,7 +30,7 @@ module _ (p x : ℕ) where
   pair-lt n b fits hx hb =
       ⊎-elim (λ (e : digit p b ≡ 1). rw (of-set b e) (drop-lt p n fits (bitXor b x) (xor-lt (suc n) b x hb hx)))
       (λ (e : digit p b ≡ 0). rw (of-clear b e) (drop-lt p n fits b hb))
-      (either b)
+      (set-or-clear p b)
 
   -- where x has the pivot, xor with x flips it
   module _ (set : digit p x ≡ 1) where
@@ -55,8 +52,8 @@ module _ (p x : ℕ) where
         = ap (openBit p) (sym q ∙ of-set b e) ∙ open-drop-clear p (bitXor b x) (flip b ∙ ap (λ (m : ℕ). (m + 1) % 2) e) in
         inr (sym (xor-twice b x) ∙ ap (λ (m : ℕ). bitXor m x) (sym low)))
         (λ (e : digit p b ≡ 0). inl (sym (open-drop-clear p b e) ∙ ap (openBit p) (sym (of-clear b e) ∙ q)))
-        (either b)
+        (set-or-clear p b)
 
-    -- they are two
+    -- the two differ
     pub pair-apart : (t : ℕ) → openBit p t ≡ bitXor (openBit p t) x → ⊥
     pair-apart t e = omega (arith, open-clear p t, flip (openBit p t), ap (digit p) e)

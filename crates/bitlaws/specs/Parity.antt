@@ -1,16 +1,16 @@
 -- Parity, and the parity of what two masks share, over masks of any width: linear in each. Assumes nothing.
 use mathlib.Core.Path.{_≡_, refl, sym, ap, ap₂, _∙_}
 use mathlib.Core.Bool.{Bool, true, false}
-use Prim.Native.Nat.{ℕ, zero, suc, _+_, _/_, _%_, _<_, min}
+use Prim.Native.Nat.{ℕ, _+_, _/_, _%_, _<_, min}
 use native.Mathlib.Nat.{zero-lt-suc, add-mod}
 use native.Mathlib.Omega.{arith}
 use lib.Arith.{bin-ind}
-use lib.Bits.{bitAnd, bitXor, differ, xor-shr, and-step, and-shr, and-comm, and-zero-l}
+use lib.Bits.{bitAnd, bitXor, differ, xor-shr, and-shr, and-comm, and-zero-l}
 use lib.Count.{ones, ones-step, ones-le}
 use lib.Dec.{eqb}
 use lib.Ieee.{unlike}
-use Rattle.bitlaws.specs.Digit.{bitOf, mod-two}
-use Rattle.bitlaws.specs.Xor.{xor-odd}
+use Rattle.bitlaws.specs.Digit.{bitOf, by-digit, mod-two}
+use Rattle.bitlaws.specs.Bitwise.{and-odd, xor-odd}
 
 -- the count of ones, modulo 2
 unfoldable pub parity : ℕ → ℕ
@@ -45,9 +45,7 @@ overlap-zero-r a = overlap-comm a 0 ∙ overlap-zero-l a
 
 -- the lowest digit that a and b share, and the rest
 pub ones-and : (a b : ℕ) → ones (bitAnd a b) ≡ min (a % 2) (b % 2) + ones (bitAnd (a / 2) (b / 2))
-ones-and a b =
-    let low : bitAnd a b % 2 ≡ min (a % 2) (b % 2) = omega (arith, and-step a b, mod-two a, mod-two b) in
-    ones-step (bitAnd a b) ∙ ap₂ (λ (p q : ℕ). p + ones q) low (and-shr a b 1)
+ones-and a b = ones-step (bitAnd a b) ∙ ap₂ (λ (p q : ℕ). p + ones q) (and-odd a b) (and-shr a b 1)
 
 sum-mod : (a b : ℕ) → (a + b) % 2 ≡ (a + b % 2) % 2
 sum-mod a b = omega arith
@@ -58,11 +56,9 @@ overlap-step a b = ap (λ (m : ℕ). m % 2) (ones-and a b) ∙ sum-mod (min (a %
 
 -- one digit
 digit-linear : (a b c : ℕ) → a < 2 → b < 2 → c < 2 → min (differ a b) c ≡ (min a c + min b c) % 2
-digit-linear zero b c p q r = omega arith
-digit-linear (suc zero) zero c p q r = omega arith
-digit-linear (suc zero) (suc zero) c p q r = omega arith
-digit-linear (suc zero) (suc (suc b)) c p q r = absurd (omega arith)
-digit-linear (suc (suc a)) b c p q r = absurd (omega arith)
+digit-linear a b c p q r =
+    by-digit (λ a. min (differ a b) c ≡ (min a c + min b c) % 2) (omega arith)
+    (by-digit (λ b. min (differ 1 b) c ≡ (min 1 c + min b c) % 2) (omega arith) (omega arith) b q) a p
 
 four : (a b u v : ℕ) → ((a + b) % 2 + (u + v) % 2) % 2 ≡ ((a + u) % 2 + (b + v) % 2) % 2
 four a b u v =
@@ -91,9 +87,5 @@ overlap-xor-r z a b = overlap-comm z (bitXor a b) ∙ overlap-xor-l a b z ∙ ap
 
 -- a bit that differs from a parity, and the parity of their sum
 pub bit-differs : (t : Bool) (p : ℕ) → p < 2 → unlike t (eqb p 1) ≡ eqb ((bitOf t + p) % 2) 1
-bit-differs true zero h = refl
-bit-differs true (suc zero) h = refl
-bit-differs true (suc (suc p)) h = absurd (omega arith)
-bit-differs false zero h = refl
-bit-differs false (suc zero) h = refl
-bit-differs false (suc (suc p)) h = absurd (omega arith)
+bit-differs true = by-digit (λ p. unlike true (eqb p 1) ≡ eqb ((bitOf true + p) % 2) 1) refl refl
+bit-differs false = by-digit (λ p. unlike false (eqb p 1) ≡ eqb ((bitOf false + p) % 2) 1) refl refl

@@ -1,22 +1,15 @@
--- A pivot: one bit of a mask, opened, dropped, or written, against xor, or, and the parity of an overlap. Assumes nothing.
+-- A pivot: one bit of a mask, opened, dropped, or written, against xor and the parity of an overlap. Assumes nothing.
 use mathlib.Core.Path.{_≡_, sym, ap, ap₂, _∙_}
-use Prim.Native.Nat.{ℕ, zero, suc, _+_, _-_, _*_, _/_, _%_, _^_, _≤_, _<_}
-use native.Mathlib.Nat.{mod-lt, div-add-mod', zero-mul, one-mul}
+use Prim.Native.Nat.{ℕ, _+_, _*_, _/_, _%_, _^_, _≤_, _<_}
+use native.Mathlib.Nat.{div-add-mod', zero-mul, one-mul}
 use native.Mathlib.Omega.{arith}
-use lib.Bits.{bitAnd, bitOr, bitXor, xor-shr, xor-mod, xor-block, xor-disjoint, or-disjoint, and-shr, and-mod, and-block, and-shifted, and-mask, and-zero-l, and-zero-r, and-comm}
+use lib.Bits.{bitAnd, bitXor, xor-shr, xor-mod, xor-block, xor-disjoint, and-shr, and-mod, and-block, and-shifted, and-mask, and-zero-l, and-zero-r, and-comm}
 use lib.Count.{ones, ones-cat}
-use lib.Pow.{pow-pos, high}
-use Rattle.bitlaws.specs.Digit.{digit, put, mod-two, digit-lt}
-use Rattle.bitlaws.specs.Xor.{xor-comm, xor-self, xor-twice}
+use lib.Pow.{pow-pos, high, split}
+use Rattle.bitlaws.specs.Digit.{mod-power, by-digit, digit, put, mod-two, digit-lt}
 use Rattle.bitlaws.specs.Parity.{parity, overlap, ones-zero, overlap-zero-l, overlap-xor-l}
 use Rattle.bitlaws.specs.Opening.{openBit, dropBit, drop-div, drop-mod, open-clear, open-drop}
 use Rattle.bitlaws.specs.Writing.{put-div, put-mod, put-sum, ones-digit}
-
--- a mask differs from its xor with one that is not 0
-pub xor-ne : (b x : ℕ) → 0 < x → b ≡ bitXor b x → ⊥
-xor-ne b x h e =
-    let none : x ≡ 0 = sym (xor-twice x b) ∙ ap (λ (m : ℕ). bitXor m b) (xor-comm x b ∙ sym e) ∙ xor-self b in
-    omega arith
 
 -- a doubled number, as a block of one clear bit
 double : (a : ℕ) → a * 2 ≡ a * 2 ^ 1 + 0
@@ -35,37 +28,24 @@ double-ones : (a : ℕ) → ones (a * 2) ≡ ones a
 double-ones a = omega (arith, ap ones (double a), ones-cat 1 a 0 (pow-pos 1), ones-zero)
 
 module _ (p : ℕ) where
-  below : (a : ℕ) → a % 2 ^ p < 2 ^ p
-  below a = mod-lt a (pow-pos p)
-
-  parts : (a : ℕ) → a / 2 ^ p * 2 ^ p + a % 2 ^ p ≡ a
-  parts a = div-add-mod' a (2 ^ p)
-
   -- opening and dropping, against xor
   pub open-xor : (a b : ℕ) → openBit p (bitXor a b) ≡ bitXor (openBit p a) (openBit p b)
   unfolding openBit
   open-xor a b =
       ap₂ (λ (q r : ℕ). q * 2 * 2 ^ p + r) (xor-shr a b p) (xor-mod a b p)
       ∙ ap (λ (q : ℕ). q * 2 ^ p + bitXor (a % 2 ^ p) (b % 2 ^ p)) (sym (double-xor (a / 2 ^ p) (b / 2 ^ p)))
-      ∙ sym (xor-block p (a / 2 ^ p * 2) (b / 2 ^ p * 2) (a % 2 ^ p) (b % 2 ^ p) (below a) (below b))
+      ∙ sym (xor-block p (a / 2 ^ p * 2) (b / 2 ^ p * 2) (a % 2 ^ p) (b % 2 ^ p) (mod-power p a) (mod-power p b))
 
   pub drop-xor : (a b : ℕ) → dropBit p (bitXor a b) ≡ bitXor (dropBit p a) (dropBit p b)
   unfolding dropBit
   drop-xor a b =
       ap₂ (λ (q r : ℕ). q / 2 * 2 ^ p + r) (xor-shr a b p) (xor-mod a b p)
       ∙ ap (λ (q : ℕ). q * 2 ^ p + bitXor (a % 2 ^ p) (b % 2 ^ p)) (xor-shr (a / 2 ^ p) (b / 2 ^ p) 1)
-      ∙ sym (xor-block p (a / 2 ^ p / 2) (b / 2 ^ p / 2) (a % 2 ^ p) (b % 2 ^ p) (below a) (below b))
-
-  -- as code computes it: the bits from p on are added once more
-  pub open-low : (j : ℕ) → openBit p j ≡ j + (j - j % 2 ^ p)
-  unfolding openBit
-  open-low j = omega (arith, parts j)
-
-  pub open-mask : (j : ℕ) → openBit p j ≡ j + (j - bitAnd j (2 ^ p - 1))
-  open-mask j = rw (and-mask j p) (open-low j)
+      ∙ sym (xor-block p (a / 2 ^ p / 2) (b / 2 ^ p / 2) (a % 2 ^ p) (b % 2 ^ p) (mod-power p a) (mod-power p b))
 
   pub open-ge : (j : ℕ) → j ≤ openBit p j
-  open-ge j = omega (arith, open-low j)
+  unfolding openBit
+  open-ge j = omega (arith, split j p)
 
   -- the pivot by itself
   power : 2 ^ p ≡ 1 * 2 ^ p + 0
@@ -78,22 +58,23 @@ module _ (p : ℕ) where
   and-power : (z : ℕ) → bitAnd (2 ^ p) z ≡ digit p z * 2 ^ p + 0
   unfolding digit
   and-power z =
-      ap₂ bitAnd power (sym (parts z))
-      ∙ and-block p 1 (z / 2 ^ p) 0 (z % 2 ^ p) (pow-pos p) (below z)
+      ap₂ bitAnd power (sym (split z p))
+      ∙ and-block p 1 (z / 2 ^ p) 0 (z % 2 ^ p) (pow-pos p) (mod-power p z)
       ∙ ap₂ (λ (q r : ℕ). q * 2 ^ p + r) (and-comm 1 (z / 2 ^ p) ∙ and-mask (z / 2 ^ p) 1) (and-zero-l (z % 2 ^ p))
 
-  pub overlap-power : (z : ℕ) → overlap (2 ^ p) z ≡ digit p z
+  overlap-power : (z : ℕ) → overlap (2 ^ p) z ≡ digit p z
   unfolding overlap parity
   overlap-power z =
       let count : ones (bitAnd (2 ^ p) z) ≡ ones (digit p z) + ones 0 = ap ones (and-power z) ∙ ones-cat p (digit p z) 0 (pow-pos p) in
       omega (arith, ones-digit (digit p z) (digit-lt p z), ones-zero, digit-lt p z)
 
-  pub overlap-digit : (d z : ℕ) → d < 2 → overlap (d * 2 ^ p) z ≡ d * digit p z
-  overlap-digit zero z h = rw (zero-mul (2 ^ p)) (overlap-zero-l z ∙ sym (zero-mul (digit p z)))
-  overlap-digit (suc zero) z h = rw (one-mul (2 ^ p)) (overlap-power z ∙ sym (one-mul (digit p z)))
-  overlap-digit (suc (suc d)) z h = absurd (omega arith)
+  overlap-digit : (d z : ℕ) → d < 2 → overlap (d * 2 ^ p) z ≡ d * digit p z
+  overlap-digit d z =
+      by-digit (λ d. overlap (d * 2 ^ p) z ≡ d * digit p z)
+      (rw (zero-mul (2 ^ p)) (overlap-zero-l z ∙ sym (zero-mul (digit p z))))
+      (rw (one-mul (2 ^ p)) (overlap-power z ∙ sym (one-mul (digit p z)))) d
 
-  -- writing the pivot where it is clear: a sum, and so an or, and an xor
+  -- writing the pivot where it is clear: a sum, and so an xor
   pub put-clear : (d b : ℕ) → digit p b ≡ 0 → put p d b ≡ b + d * 2 ^ p
   put-clear d b e = omega (arith, put-sum p d b, ap (λ (m : ℕ). m * 2 ^ p) e)
 
@@ -102,33 +83,24 @@ module _ (p : ℕ) where
   apart d b h e =
       let even : b / 2 ^ p ≡ b / 2 ^ p / 2 * 2 ^ 1 = omega arith in
       let whole : d * 2 ^ p ≡ d * 2 ^ p + 0 = omega arith in
-      ap₂ bitAnd (sym (parts b)) whole
-      ∙ and-block p (b / 2 ^ p) d (b % 2 ^ p) 0 (below b) (pow-pos p)
+      ap₂ bitAnd (sym (split b p)) whole
+      ∙ and-block p (b / 2 ^ p) d (b % 2 ^ p) 0 (mod-power p b) (pow-pos p)
       ∙ ap₂ (λ (q r : ℕ). q * 2 ^ p + r) (ap (λ (m : ℕ). bitAnd m d) even ∙ and-shifted (b / 2 ^ p / 2) 1 d h) (and-zero-r (b % 2 ^ p))
       ∙ omega arith
 
   pub xor-pivot : (d b : ℕ) → d < 2 → digit p b ≡ 0 → bitXor b (d * 2 ^ p) ≡ b + d * 2 ^ p
   xor-pivot d b h e = xor-disjoint b (d * 2 ^ p) (apart d b h e)
 
-  pub or-pivot : (d b : ℕ) → d < 2 → digit p b ≡ 0 → bitOr b (d * 2 ^ p) ≡ b + d * 2 ^ p
-  or-pivot d b h e = or-disjoint b (d * 2 ^ p) (apart d b h e)
-
-  pub xor-put : (d b : ℕ) → d < 2 → digit p b ≡ 0 → bitXor b (d * 2 ^ p) ≡ put p d b
-  xor-put d b h e = xor-pivot d b h e ∙ sym (put-clear d b e)
-
-  -- dropping forgets what was written
+  -- what is written at the pivot is dropped with it
   pub drop-put : (d b : ℕ) → d < 2 → dropBit p (put p d b) ≡ dropBit p b
   unfolding dropBit
   drop-put d b h =
       let half : (b / 2 ^ p / 2 * 2 + d) / 2 ≡ b / 2 ^ p / 2 = omega arith in
       rw (put-div p d b, put-mod p d b, half)
 
-  -- the digit put back
+  -- opened where it was dropped, with its digit added
   pub open-drop-sum : (q : ℕ) → openBit p (dropBit p q) + digit p q * 2 ^ p ≡ q
   open-drop-sum q = omega (arith, open-drop p q, put-sum p 0 q)
-
-  pub open-drop-digit : (q : ℕ) → bitXor (openBit p (dropBit p q)) (digit p q * 2 ^ p) ≡ q
-  open-drop-digit q = xor-pivot (digit p q) (openBit p (dropBit p q)) (digit-lt p q) (open-clear p (dropBit p q)) ∙ open-drop-sum q
 
   -- the parity of an overlap, with the pivot apart
   open-and : (j z : ℕ) → bitAnd (openBit p j) z ≡ openBit p (bitAnd j (dropBit p z))
@@ -138,18 +110,18 @@ module _ (p : ℕ) where
       = ap (bitAnd (j / 2 ^ p)) (sym (drop-div p z)) ∙ sym (and-shr j (dropBit p z) p) in
       let rest : bitAnd (j % 2 ^ p) (z % 2 ^ p) ≡ bitAnd j (dropBit p z) % 2 ^ p
       = ap (bitAnd (j % 2 ^ p)) (sym (drop-mod p z)) ∙ sym (and-mod j (dropBit p z) p) in
-      ap (bitAnd (openBit p j)) (sym (parts z))
-      ∙ and-block p (j / 2 ^ p * 2) (z / 2 ^ p) (j % 2 ^ p) (z % 2 ^ p) (below j) (below z)
+      ap (bitAnd (openBit p j)) (sym (split z p))
+      ∙ and-block p (j / 2 ^ p * 2) (z / 2 ^ p) (j % 2 ^ p) (z % 2 ^ p) (mod-power p j) (mod-power p z)
       ∙ ap (λ (m : ℕ). m * 2 ^ p + bitAnd (j % 2 ^ p) (z % 2 ^ p)) (double-and (j / 2 ^ p) (z / 2 ^ p))
       ∙ ap₂ (λ (q r : ℕ). q * 2 * 2 ^ p + r) top rest
 
   ones-open : (j : ℕ) → ones (openBit p j) ≡ ones j
   unfolding openBit
   ones-open j =
-      ones-cat p (j / 2 ^ p * 2) (j % 2 ^ p) (below j)
+      ones-cat p (j / 2 ^ p * 2) (j % 2 ^ p) (mod-power p j)
       ∙ ap (λ (m : ℕ). m + ones (j % 2 ^ p)) (double-ones (j / 2 ^ p))
-      ∙ sym (ones-cat p (j / 2 ^ p) (j % 2 ^ p) (below j))
-      ∙ ap ones (parts j)
+      ∙ sym (ones-cat p (j / 2 ^ p) (j % 2 ^ p) (mod-power p j))
+      ∙ ap ones (split j p)
 
   pub overlap-open : (j z : ℕ) → overlap (openBit p j) z ≡ overlap j (dropBit p z)
   unfolding overlap parity

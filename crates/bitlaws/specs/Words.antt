@@ -31,30 +31,34 @@ module _ (size : ℕ) where
   abbrev pub Small : (ℕ → ℕ) → Type 0
   Small f = (i : ℕ) → f i < 2 ^ size
 
-  pub words-xor : (n : ℕ) (f g : ℕ → ℕ) → Small f → Small g → bitXor (words size f n) (words size g n) ≡ words size (λ i. bitXor (f i) (g i)) n
-  unfolding words
-  words-xor zero f g hf hg = refl
-  words-xor (suc n) f g hf hg =
-      xor-block size (words size (λ i. f (suc i)) n) (words size (λ i. g (suc i)) n) (f 0) (g 0) (hf 0) (hg 0)
-      ∙ ap (λ (m : ℕ). m * 2 ^ size + bitXor (f 0) (g 0)) (words-xor n (λ i. f (suc i)) (λ i. g (suc i)) (λ i. hf (suc i)) (λ i. hg (suc i)))
+  -- an operation that goes block by block, as `and`, `or` and `xor` do, goes word by word
+  module _ (op : ℕ → ℕ → ℕ) (none : op 0 0 ≡ 0)
+      (block : (a b u v : ℕ) → u < 2 ^ size → v < 2 ^ size → op (a * 2 ^ size + u) (b * 2 ^ size + v) ≡ op a b * 2 ^ size + op u v) where
+    words-each : (n : ℕ) (f g : ℕ → ℕ) → Small f → Small g → op (words size f n) (words size g n) ≡ words size (λ i. op (f i) (g i)) n
+    unfolding words
+    words-each zero f g hf hg = none
+    words-each (suc n) f g hf hg =
+        block (words size (λ i. f (suc i)) n) (words size (λ i. g (suc i)) n) (f 0) (g 0) (hf 0) (hg 0)
+        ∙ ap (λ (m : ℕ). m * 2 ^ size + op (f 0) (g 0)) (words-each n (λ i. f (suc i)) (λ i. g (suc i)) (λ i. hf (suc i)) (λ i. hg (suc i)))
 
-  pub words-or : (n : ℕ) (f g : ℕ → ℕ) → Small f → Small g → bitOr (words size f n) (words size g n) ≡ words size (λ i. bitOr (f i) (g i)) n
-  unfolding words
-  words-or zero f g hf hg = refl
-  words-or (suc n) f g hf hg =
-      or-block size (words size (λ i. f (suc i)) n) (words size (λ i. g (suc i)) n) (f 0) (g 0) (hf 0) (hg 0)
-      ∙ ap (λ (m : ℕ). m * 2 ^ size + bitOr (f 0) (g 0)) (words-or n (λ i. f (suc i)) (λ i. g (suc i)) (λ i. hf (suc i)) (λ i. hg (suc i)))
-
-  -- the ones that two masks share, counted word by word
-  pub words-ones : (n : ℕ) (f g : ℕ → ℕ) → Small f → Small g → ones (bitAnd (words size f n) (words size g n)) ≡ total (λ i. ones (bitAnd (f i) (g i))) n
+  -- the ones of a mask, counted word by word
+  ones-words : (n : ℕ) (f : ℕ → ℕ) → Small f → ones (words size f n) ≡ total (λ i. ones (f i)) n
   unfolding words total
-  words-ones zero f g hf hg = ones-zero
-  words-ones (suc n) f g hf hg =
-      let fs : ℕ = words size (λ i. f (suc i)) n in
-      let gs : ℕ = words size (λ i. g (suc i)) n in
-      ap ones (and-block size fs gs (f 0) (g 0) (hf 0) (hg 0))
-      ∙ ones-cat size (bitAnd fs gs) (bitAnd (f 0) (g 0)) (and-lt size (f 0) (g 0) (hf 0) (hg 0))
-      ∙ ap (λ (m : ℕ). m + ones (bitAnd (f 0) (g 0))) (words-ones n (λ i. f (suc i)) (λ i. g (suc i)) (λ i. hf (suc i)) (λ i. hg (suc i)))
+  ones-words zero f hf = ones-zero
+  ones-words (suc n) f hf =
+      ones-cat size (words size (λ i. f (suc i)) n) (f 0) (hf 0) ∙ ap (λ (m : ℕ). m + ones (f 0)) (ones-words n (λ i. f (suc i)) (λ i. hf (suc i)))
+
+  module _ (n : ℕ) (f g : ℕ → ℕ) (hf : Small f) (hg : Small g) where
+    pub words-xor : bitXor (words size f n) (words size g n) ≡ words size (λ i. bitXor (f i) (g i)) n
+    words-xor = words-each bitXor refl (xor-block size) n f g hf hg
+
+    pub words-or : bitOr (words size f n) (words size g n) ≡ words size (λ i. bitOr (f i) (g i)) n
+    words-or = words-each bitOr refl (or-block size) n f g hf hg
+
+    -- the ones that two masks share
+    pub words-ones : ones (bitAnd (words size f n) (words size g n)) ≡ total (λ i. ones (bitAnd (f i) (g i))) n
+    words-ones =
+        ap ones (words-each bitAnd refl (and-block size) n f g hf hg) ∙ ones-words n (λ i. bitAnd (f i) (g i)) (λ i. and-lt size (f i) (g i) (hf i) (hg i))
 
   -- word w is the w-th group of digits
   pub words-at : (w n : ℕ) (f : ℕ → ℕ) → Small f → w < n → words size f n / 2 ^ (w * size) % 2 ^ size ≡ f w

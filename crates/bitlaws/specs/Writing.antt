@@ -1,8 +1,8 @@
 -- Writing a digit of a mask, at any place. Assumes nothing.
 use mathlib.Core.Path.{_≡_, refl, sym, ap, ap₂, _∙_, subst}
 use mathlib.Core.Logic.{⊎-elim}
-use Prim.Native.Nat.{ℕ, zero, suc, _+_, _-_, _*_, _/_, _%_, _^_, _<_, min}
-use native.Mathlib.Nat.{mod-lt, div-add-mod', pow-suc, mul-comm}
+use Prim.Native.Nat.{ℕ, suc, _+_, _-_, _*_, _/_, _%_, _^_, _<_, min}
+use native.Mathlib.Nat.{div-add-mod', pow-suc, mul-comm}
 use native.Mathlib.Omega.{arith}
 use lib.Arith.{digits-div, digits-mod, digits-lt}
 use lib.Bits.{bitAnd, bitOr, and-block, or-block, or-zero-r, and-shr, and-mod}
@@ -10,27 +10,22 @@ use lib.Count.{ones, ones-cat}
 use lib.Dec.{lit<}
 use lib.Pow.{pow-pos, pow-add, shr-lt, high, low}
 use Rattle.bitlaws.specs.Order.{lt-or-gt}
-use Rattle.bitlaws.specs.Digit.{digit, put, mod-two, digit-high, digit-low}
+use Rattle.bitlaws.specs.Digit.{mod-power, by-digit, digit, put, mod-two, digit-high, digit-low}
 
 pub ones-digit : (d : ℕ) → d < 2 → ones d ≡ d
 unfolding ones
-ones-digit zero h = refl
-ones-digit (suc zero) h = refl
-ones-digit (suc (suc d)) h = absurd (omega arith)
+ones-digit = by-digit (λ d. ones d ≡ d) refl refl
 
 module _ (q : ℕ) where
-  below : (a : ℕ) → a % 2 ^ q < 2 ^ q
-  below a = mod-lt a (pow-pos q)
-
   pub put-div : (d a : ℕ) → put q d a / 2 ^ q ≡ a / 2 ^ q / 2 * 2 + d
   unfolding put
-  put-div d a = digits-div (a / 2 ^ q / 2 * 2 + d) (below a)
+  put-div d a = digits-div (a / 2 ^ q / 2 * 2 + d) (mod-power q a)
 
   pub put-mod : (d a : ℕ) → put q d a % 2 ^ q ≡ a % 2 ^ q
   unfolding put
-  put-mod d a = digits-mod (a / 2 ^ q / 2 * 2 + d) (below a)
+  put-mod d a = digits-mod (a / 2 ^ q / 2 * 2 + d) (mod-power q a)
 
-  -- the digit changes by itself
+  -- the old digit's weight goes, the new digit's comes
   pub put-sum : (d a : ℕ) → put q d a + digit q a * 2 ^ q ≡ a + d * 2 ^ q
   unfolding put digit
   put-sum d a =
@@ -56,7 +51,7 @@ module _ (q : ℕ) where
       let top : a / 2 ^ q < 2 ^ suc (n - suc q) = shr-lt (suc (n - suc q)) q (subst (λ (m : ℕ). a < 2 ^ m) parts ha) in
       let room : a / 2 ^ q / 2 * 2 + d < 2 ^ suc (n - suc q) = omega (arith, pow-suc 2 (n - suc q)) in
       let whole : 2 ^ n ≡ 2 ^ suc (n - suc q) * 2 ^ q = ap (λ (m : ℕ). 2 ^ m) parts ∙ pow-add 2 (suc (n - suc q)) q in
-      rw whole (digits-lt room (below a))
+      rw whole (digits-lt room (mod-power q a))
 
   -- or with 2 ^ q writes a one
   pub or-put : (a : ℕ) → bitOr a (2 ^ q) ≡ put q 1 a
@@ -67,13 +62,11 @@ module _ (q : ℕ) where
       let top : bitOr r 1 ≡ r / 2 * 2 + 1
       = ap (λ (m : ℕ). bitOr m 1) (sym (div-add-mod' r 2)) ∙ or-block 1 (r / 2) 0 (r % 2) 1 (mod-two r) (lit< tt) ∙ ap₂ (λ (u v : ℕ). u * 2 + v) (or-zero-r (r / 2)) (low-one (r % 2) (mod-two r)) in
       ap₂ bitOr (sym (div-add-mod' a (2 ^ q))) one
-      ∙ or-block q r 1 (a % 2 ^ q) 0 (below a) (pow-pos q)
+      ∙ or-block q r 1 (a % 2 ^ q) 0 (mod-power q a) (pow-pos q)
       ∙ ap₂ (λ (u v : ℕ). u * 2 ^ q + v) top (or-zero-r (a % 2 ^ q))
     where
       low-one : (d : ℕ) → d < 2 → bitOr d 1 ≡ 1
-      low-one zero h = refl
-      low-one (suc zero) h = refl
-      low-one (suc (suc d)) h = absurd (omega arith)
+      low-one = by-digit (λ d. bitOr d 1 ≡ 1) refl refl
 
   -- and, digit by digit
   pub and-put : (c d a b : ℕ) → c < 2 → d < 2 → bitAnd (put q c a) (put q d b) ≡ put q (min c d) (bitAnd a b)
@@ -82,23 +75,19 @@ module _ (q : ℕ) where
       let r : ℕ = a / 2 ^ q in
       let s : ℕ = b / 2 ^ q in
       let halves : bitAnd (r / 2) (s / 2) ≡ bitAnd a b / 2 ^ q / 2 = sym (and-shr r s 1) ∙ ap (λ (m : ℕ). m / 2) (sym (and-shr a b q)) in
-      and-block q (r / 2 * 2 + c) (s / 2 * 2 + d) (a % 2 ^ q) (b % 2 ^ q) (below a) (below b)
+      and-block q (r / 2 * 2 + c) (s / 2 * 2 + d) (a % 2 ^ q) (b % 2 ^ q) (mod-power q a) (mod-power q b)
       ∙ ap₂ (λ (u v : ℕ). u * 2 ^ q + v)
       (and-block 1 (r / 2) (s / 2) c d hc hd ∙ ap₂ (λ (u v : ℕ). u * 2 + v) halves (one-digit c d hc hd))
       (sym (and-mod a b q))
     where
       one-digit : (c d : ℕ) → c < 2 → d < 2 → bitAnd c d ≡ min c d
-      one-digit zero d p r = omega arith
-      one-digit (suc zero) zero p r = refl
-      one-digit (suc zero) (suc zero) p r = refl
-      one-digit (suc zero) (suc (suc d)) p r = absurd (omega arith)
-      one-digit (suc (suc c)) d p r = absurd (omega arith)
+      one-digit c d p r = by-digit (λ c. bitAnd c d ≡ min c d) (omega arith) (by-digit (λ d. bitAnd 1 d ≡ min 1 d) refl refl d r) c p
 
   -- the count of ones gains the digit
   pub ones-put : (d a : ℕ) → d < 2 → ones (put q d a) ≡ ones (a / 2 ^ q / 2) + d + ones (a % 2 ^ q)
   unfolding put
   ones-put d a h =
-      ones-cat q (a / 2 ^ q / 2 * 2 + d) (a % 2 ^ q) (below a)
+      ones-cat q (a / 2 ^ q / 2 * 2 + d) (a % 2 ^ q) (mod-power q a)
       ∙ ap (λ (m : ℕ). m + ones (a % 2 ^ q)) (ones-cat 1 (a / 2 ^ q / 2) d h ∙ ap (λ (m : ℕ). ones (a / 2 ^ q / 2) + m) (ones-digit d h))
 
 -- another digit stays

@@ -1,7 +1,5 @@
-// Packed-bit addressing (bits.rs, and insert_zero_bit of active.rs): the parity of a word, a zero
-// bit opened in a basis index, and masks of four words.
-pub mod mask;
-
+// Bits of one word (bits.rs, and insert_zero_bit of active.rs): the parity of a word, and a zero bit
+// opened in a basis index.
 ghost use mathlib.Core.Path.{_≡_};
 ghost use lib.Dec.{eqb};
 ghost use Prim.Native.Nat.{_+_, _%_, _^_};

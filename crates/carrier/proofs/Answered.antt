@@ -1,7 +1,7 @@
 -- What carrying answers and leaves in the output, from what the check, the rows and the loop say. Assumes nothing.
 use mathlib.Core.Path.{_≡_, refl, sym, ap, _∙_}
 use mathlib.Core.List.{List, _++_}
-use mathlib.Core.Option.{none, some}
+use mathlib.Core.Option.{none, some, Option·some-injective, Option·none-ne-some}
 use Prim.Native.Nat.{ℕ, _≤_}
 use native.Mathlib.Omega.{arith}
 use lib.ListN.{length, take, drop, length-append}
@@ -34,11 +34,11 @@ module _ (limit : ℕ) (s : List ℕ) where
     starts = run-allowed limit s (runIn limit s) accepts .start
 
     -- a run that is checked has a start field
-    pub unstarted : none ≡ startWidth limit (fieldAt s 0) → ⊥
-    unstarted start = let read = start ∙ starts in let z : _≡_ {A = ℕ} 0 1 = cc in omega arith
+    pub no-start : startWidth limit (fieldAt s 0) ≡ none → ⊥
+    no-start e = Option·none-ne-some _ (sym e ∙ starts)
 
-    start-width : (width : ℕ) → some width ≡ startWidth limit (fieldAt s 0) → width ≡ runIn limit s .width
-    start-width width start = let read = start ∙ starts in cc
+    start-width : (width : ℕ) → startWidth limit (fieldAt s 0) ≡ some width → width ≡ runIn limit s .width
+    start-width width e = Option·some-injective _ _ (sym e ∙ starts)
 
 -- ---- the answers
 
@@ -48,7 +48,7 @@ module _ (limit : ℕ) (s : List ℕ) (Q : Pauli) (out : List ℕ) where
   run-refused n at e = rw (mapped-refused surveyOf (runOf limit s) n at (sym e)) (refl, refl)
 
   -- of a run that is checked: its start width, and the row by it
-  module _ {v : Survey} (checked : accepted v ≡ checking limit s) {width : ℕ} (start : some width ≡ startWidth limit (fieldAt s 0)) {r : ℕ}
+  module _ {v : Survey} (checked : accepted v ≡ checking limit s) {width : ℕ} (start : startWidth limit (fieldAt s 0) ≡ some width) {r : ℕ}
       (is : r ≡ carryingRow Q width (length s) (length out)) where
     begins : width ≡ runIn limit s .width
     begins = start-width limit s checked width start

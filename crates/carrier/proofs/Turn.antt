@@ -10,8 +10,8 @@ use denote.Enum.Declared.{tagOf}
 use Rattle.answers.specs.Answer.Answer.{accepted}
 use Rattle.paulilaws.specs.Pauli.{Pauli, mostQubits}
 use Rattle.paulilaws.specs.Fitting.{Fitting}
-use Rattle.framelaws.specs.Step.{Step}
-use Rattle.framelaws.specs.Step.Step.{rotation, promotion, projection, correction}
+use Rattle.amplitudelaws.specs.Step.{Step}
+use Rattle.amplitudelaws.specs.Step.Step.{rotation, promotion, projection, correction}
 use Rattle.framelaws.specs.Rows.{stepRow}
 use Rattle.framelaws.specs.Allowed.{Placed}
 use Rattle.framelaws.specs.Carrying.{carriedStep, passed, carriedSteps, endPauli}
@@ -99,9 +99,9 @@ module _ {limit : ℕ} {s : List ℕ} {last : Pauli} {all : List ℕ} {c : Curso
           steps = k .after;
           left = k .left;
           fitted = rw (r .width) (fitting-passed limit (c .width) Q t small (f .within) (r .placed) (r .row) (f .fitting) (f .width));
-          ends = ap (endPauli Q) (sym (k .by)) ∙ w .ends;
+          ends = ap (endPauli Q) (sym (k .rest-is)) ∙ w .ends;
           writes = ap (λ (n : ℕ). flagged n (carriedSteps (passed Q t) (k .after)) one) next
-              ∙ ap (λ (ts : List (Step Float)). flagged (c .at) (carriedSteps Q ts) out) (sym (k .by))
+              ∙ ap (λ (ts : List (Step Float)). flagged (c .at) (carriedSteps Q ts) out) (sym (k .rest-is))
               ∙ w .writes;
           room = rw (flag-length (c .at) (carriedStep Q t) out) (w .room);
         }

@@ -4,8 +4,8 @@ use Prim.Native.Nat.{_<_}
 use lib.Ieee.{Float}
 use Rattle.paulilaws.specs.Pauli.{Pauli}
 use Rattle.paulilaws.specs.Fitting.{Fitting}
-use Rattle.framelaws.specs.Step.{Step}
-use Rattle.framelaws.specs.Step.Step.{rotation, promotion, projection, correction}
+use Rattle.amplitudelaws.specs.Step.{Step}
+use Rattle.amplitudelaws.specs.Step.Step.{rotation, promotion, projection, correction}
 
 -- two Paulis on the same qubits
 pub record Paired (Q P : Pauli) : Type 0 where

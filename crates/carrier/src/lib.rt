@@ -5,7 +5,7 @@ mod passing;
 
 use activepauli::ActivePauli;
 use checker::CheckAnswer;
-use reader::StartAnswer;
+use fields::StartAnswer;
 use steps::Cursor;
 use steps::Read;
 use steps::Step;
@@ -47,7 +47,7 @@ fn carry_within(run: &[u8], pauli: ActivePauli, out: &mut [u8], limit: usize) ->
     if let CheckAnswer::Refused(row, at) = checker::check_within(run, limit) {
         return CarryAnswer::RefusedAt(row, at);
     }
-    let StartAnswer::Width(width) = reader::start(run, limit) else {
+    let StartAnswer::Width(width) = fields::start(run, limit) else {
         return CarryAnswer::RefusedAt(14, 0);
     };
     let row = carrying_row(pauli, width, run.len(), out.len());

@@ -18,8 +18,8 @@ use Rattle.amplitudelaws.specs.Rows.{measurementRow}
 use Rattle.amplitudelaws.specs.Passed.{measurement-passed}
 use Rattle.framelaws.specs.Allowed.{Placed}
 use Rattle.framelaws.specs.Rows.{stepRow, projectionStepRow}
-use Rattle.framelaws.specs.Step.{Step, widthAfter}
-use Rattle.framelaws.specs.Step.Step.{rotation, promotion, projection, correction}
+use Rattle.amplitudelaws.specs.Step.{Step, widthAfter}
+use Rattle.amplitudelaws.specs.Step.Step.{rotation, promotion, projection, correction}
 use Rattle.framelaws.specs.Survey.{Survey, outset, surveyed, surveyFrom, survey}
 use Rattle.runlaws.specs.Reading.{Cursor, readAt}
 use Rattle.runlaws.specs.Reading.Read.{stepRead}
@@ -94,7 +94,7 @@ module _ {limit : ℕ} {s : List ℕ} {all : Answer Survey} {c : Cursor} {v : Su
         record {
           rest = l .after;
           left = l .left;
-          same = sym (mapped-mapped (surveyFrom v) (λ (ts : List (Step Float)). t ∷ ts) (l .after)) ∙ ap (mapped (surveyFrom v)) (sym (l .by)) ∙ k .same;
+          same = sym (mapped-mapped (surveyFrom v) (λ (ts : List (Step Float)). t ∷ ts) (l .after)) ∙ ap (mapped (surveyFrom v)) (sym (l .rest-is)) ∙ k .same;
           few = omega (arith, k .few);
           width = ap (λ (n : ℕ). widthAfter n t) (k .width) ∙ sym (r .width);
         }

@@ -7,8 +7,8 @@ use lib.Ieee.{Float}
 use Rattle.answers.specs.Answer.{Answer}
 use Rattle.answers.specs.Answer.Answer.{accepted, refusedAt}
 use Rattle.amplitudelaws.specs.Rows.{widestKernel}
-use Rattle.framelaws.specs.Step.{Step, widthAfter}
-use Rattle.framelaws.specs.Step.Step.{rotation, promotion, projection, correction}
+use Rattle.amplitudelaws.specs.Step.{Step, widthAfter}
+use Rattle.amplitudelaws.specs.Step.Step.{rotation, promotion, projection, correction}
 use Rattle.framelaws.specs.Survey.{Survey}
 use Rattle.runlaws.specs.Reading.{Read}
 use Rattle.runlaws.specs.Reading.Read.{stepRead, endRead, refusedRead}

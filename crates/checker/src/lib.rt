@@ -2,7 +2,7 @@
 // width, the number of steps (the fields between start and end), the greatest width, and how many
 // amplitudes the largest state has that a projection with an X part leaves; or the first refusal, in
 // file order, with its place.
-use reader::StartAnswer;
+use fields::StartAnswer;
 use steps::Cursor;
 use steps::Read;
 use steps::Step;
@@ -43,7 +43,7 @@ pub fn check_within(run: &[u8], limit: usize) -> CheckAnswer
     if 65536 < run.len() {
         return CheckAnswer::Refused(14, 0);
     }
-    let StartAnswer::Width(width) = reader::start(run, limit) else {
+    let StartAnswer::Width(width) = fields::start(run, limit) else {
         return CheckAnswer::Refused(14, 0);
     };
     survey_steps(run, width, limit)

@@ -1,6 +1,7 @@
 // Pairs of floats: the coefficients m and w of the kernels, and the amplitudes. Each operation is
 // rounded by itself, in the order of the formulas; nothing is fused.
 ghost use mathlib.Core.Path.{_≡_};
+ghost use Prim.Native.Nat.{_%_};
 ghost use Rattle.bitlaws.specs.Digit.{bitOf};
 ghost use Rattle.amplitudelaws.specs.Arithmetic as formula;
 ghost use Rattle.amplitudelaws.specs.Binary.{binary};
@@ -12,36 +13,38 @@ pub struct Complex64 {
     pub im: f64,
 }
 
-// i^phase; what is over 3 counts as 3.
+// i^phase, by the phase modulo 4.
 pub fn phase_factor(phase: u8) -> Complex64
-    ensures { λ r. ⌜ complexOf r ≡ formula.power binary phase ⌝ }
+    ensures { λ r. ⌜ complexOf r ≡ formula.power binary (phase % 4) ⌝ }
 {
-    if phase == 0 {
+    let turns = phase % 4;
+    if turns == 0 {
         return Complex64 { re: 1.0, im: 0.0 };
     }
-    if phase == 1 {
+    if turns == 1 {
         return Complex64 { re: 0.0, im: 1.0 };
     }
-    if phase == 2 {
+    if turns == 2 {
         return Complex64 { re: -1.0, im: 0.0 };
     }
     Complex64 { re: 0.0, im: -1.0 }
 }
 
-// i^exponent times the amplitude, by exchanging and negating its parts; what is over 3 counts as 3.
+// i^exponent times the amplitude, by exchanging and negating its parts; the exponent counts modulo 4.
 pub fn quarters(exponent: u8, a: Complex64) -> Complex64
-    ensures { λ r. ⌜ complexOf r ≡ formula.quarters binary exponent (complexOf a) ⌝ }
+    ensures { λ r. ⌜ complexOf r ≡ formula.quarters binary (exponent % 4) (complexOf a) ⌝ }
 {
-    if exponent == 0 {
+    let turns = exponent % 4;
+    if turns == 0 {
         return a;
     }
-    if exponent == 1 {
+    if turns == 1 {
         return Complex64 {
             re: -a.im,
             im: a.re,
         };
     }
-    if exponent == 2 {
+    if turns == 2 {
         return Complex64 {
             re: -a.re,
             im: -a.im,

@@ -47,7 +47,7 @@ fn exponent(phase: u8, basis: u64, zmask: u64) -> u8
 
 fn turn_at(re: &mut [f64], im: &mut [f64], b: usize, exponent: u8)
     requires { ⌜ (b < length (now re)) × (b < length (now im)) ⌝ }
-    ensures { λ _. ⌜ stateOf (now (re .exit)) (now (im .exit)) ≡ setPoint b (quarters binary exponent (point (stateOf (now (re .entry)) (now (im .entry))) b)) (stateOf (now (re .entry)) (now (im .entry))) ⌝ }
+    ensures { λ _. ⌜ stateOf (now (re .exit)) (now (im .exit)) ≡ setPoint b (quarters binary (exponent % 4) (point (stateOf (now (re .entry)) (now (im .entry))) b)) (stateOf (now (re .entry)) (now (im .entry))) ⌝ }
 {
     let a = complex::quarters(
         exponent,
@@ -78,7 +78,7 @@ fn correct_pairs(re: &mut [f64], im: &mut [f64], pauli: ActivePauli, pair_bit: u
 
 fn exchange(re: &mut [f64], im: &mut [f64], left: usize, right: usize, to_left: u8, to_right: u8)
     requires { ⌜ (left < length (now re)) × (left < length (now im)) × (right < length (now re)) × (right < length (now im)) ⌝ }
-    ensures { λ _. ⌜ stateOf (now (re .exit)) (now (im .exit)) ≡ setPoint right (quarters binary «to_right» (point (stateOf (now (re .entry)) (now (im .entry))) left)) (setPoint left (quarters binary «to_left» (point (stateOf (now (re .entry)) (now (im .entry))) right)) (stateOf (now (re .entry)) (now (im .entry)))) ⌝ }
+    ensures { λ _. ⌜ stateOf (now (re .exit)) (now (im .exit)) ≡ setPoint right (quarters binary («to_right» % 4) (point (stateOf (now (re .entry)) (now (im .entry))) left)) (setPoint left (quarters binary («to_left» % 4) (point (stateOf (now (re .entry)) (now (im .entry))) right)) (stateOf (now (re .entry)) (now (im .entry)))) ⌝ }
 {
     let p = Complex64 {
         re: re[left],

@@ -1,6 +1,6 @@
--- The frame theorem's hypotheses can be met: one closed run through every kind of step, carried past Y, on two sets of buffers that differ in all that
--- plays no part. Assumes nothing.
-use mathlib.Core.Path.{_≡_, refl, sym, _∙_, subst}
+-- The frame theorem's hypotheses can be met: one closed run through every kind of step, carried past Y, on two sets of buffers that differ wherever
+-- the theorem lets them. Assumes nothing.
+use mathlib.Core.Path.{_≡_, refl, sym, ap, _∙_, subst}
 use mathlib.Core.Bool.{not}
 use mathlib.Core.List.{List, [], _∷_}
 use Prim.Native.Nat.{ℕ, zero, suc, _^_, _<_}
@@ -25,23 +25,23 @@ use Rattle.amplitudelaws.specs.Rotation.{rotationCoefficient, rotatedAlone, rot
 use Rattle.amplitudelaws.specs.Promotion.{raised as raisedQubit, promoted}
 use Rattle.amplitudelaws.specs.Projection.{minus, projectionCoefficient, remainingBy, remaining, projected}
 use Rattle.amplitudelaws.specs.Correction.{corrected}
-use Rattle.amplitudelaws.specs.Rows.{rotationKernelRow, measurementRow, hermitianRow, widthRow, unitRow, pivotRow, pivotMask, roomRow}
-use Rattle.amplitudelaws.specs.State.{State, point, written, room}
+use Rattle.amplitudelaws.specs.Rows.{rotationKernelRow, measurementRow, hermitianRow, widthRow, unitRow, promotedWidthRow, pivotRow, pivotMask, roomRow}
+use Rattle.amplitudelaws.specs.State.{State, point, written, roomFor, room}
 use Rattle.amplitudelaws.specs.Steps as leaves
 use Rattle.framelaws.specs.Alike.{Finite}
 use Rattle.framelaws.specs.Allowed.{FiniteState, FiniteSteps}
-use Rattle.framelaws.specs.Step.{Step, widthAfter}
-use Rattle.framelaws.specs.Step.Step.{rotation, promotion, projection, correction}
+use Rattle.amplitudelaws.specs.Step.{Step, widthAfter}
+use Rattle.amplitudelaws.specs.Step.Step.{rotation, promotion, projection, correction}
 use Rattle.framelaws.specs.Rows.{stepRow, rotationStepRow, promotionStepRow, projectionStepRow}
 use Rattle.framelaws.specs.Carrying.{flipped, deciding, meets, absorbed, widened, carriedStep, passed, carriedSteps, endPauli}
 use Rattle.framelaws.specs.Survey.{mixedAmplitudes, surveyed, surveyFrom, survey}
 use Rattle.framelaws.specs.Memory.{Memory, memoryOf, stepped, ran}
 use Rattle.runlaws.specs.Bytes.{number, floatAt, pauliAt}
-use Rattle.runlaws.specs.Field.{bodyLength, whole, fieldAt}
+use Rattle.runlaws.specs.Field.{bodyLength, isWhole, fieldAt}
 use Rattle.runlaws.specs.Reading.{decoded, unless, judgedBy, judged, readField, readAt}
 use Rattle.runlaws.specs.Run.{Run, widestRun, mapped, ended, follow, walk, startWidth, begun, runOf}
 use Rattle.runlaws.specs.Flags.{fieldSize, flagAt, flagged}
-use Rattle.runlaws.specs.Calls.{Ending, onRun, byRow, surveyOf, scratchRoom, memoryRow, running, carryingRow, carriedRun, carrying}
+use Rattle.runlaws.specs.Calls.{Ending, Outcome, onRun, byRow, surveyOf, memoryRow, running, carryingRow, carriedRun, carrying}
 use Rattle.runlaws.specs.Theorem.{SameNumber, Agreeing, FiniteRun, fired, Frame, frame}
 use Rattle.examples.specs.Runs as bytes
 use Rattle.examples.specs.Runs.{one}
@@ -82,23 +82,27 @@ end = record { n = 1; k = 1; x = 0; z = 0 }
 
 -- ---- the hypotheses
 
+-- lent to carrying: other bytes, longer by one than the run
 abbrev output : List ℕ
-output = run
+output = bytes.outputFor run
+
+-- the answer, and what is left in the output, whole
+outcome : carrying widestRun run Y output ≡ record { answer = accepted end; lent = bytes.filledWith carried }
+unfolding carrying onRun byRow carryingRow carriedRun runOf begun startWidth mapped walk follow ended readAt readField judged judgedBy unless decoded fieldAt isWhole bodyLength number floatAt pauliAt fits hermitian coefficient ys flagged flagAt fieldSize carriedSteps carriedStep passed flipped anti product deciding meets absorbed widened endPauli raised dropped dropBit widthAfter stepRow rotationStepRow promotionStepRow projectionStepRow rotationKernelRow measurementRow hermitianRow widthRow unitRow promotedWidthRow pivotRow pivotMask inUnit row first answered left le neg ofBits digit overlap parity ones onesIn
+outcome = refl
 
 carries : carrying widestRun run Y output .answer ≡ accepted end
-unfolding carrying onRun byRow carryingRow carriedRun runOf begun startWidth mapped walk follow ended readAt readField judged judgedBy unless decoded fieldAt whole bodyLength number floatAt pauliAt fits hermitian coefficient ys flagged flagAt fieldSize carriedSteps carriedStep passed flipped anti product deciding meets absorbed widened endPauli raised dropped dropBit widthAfter stepRow rotationStepRow promotionStepRow projectionStepRow rotationKernelRow measurementRow hermitianRow widthRow unitRow pivotRow pivotMask inUnit row first answered left le neg ofBits digit overlap parity ones onesIn
-carries = refl
+carries = ap (λ (o : Outcome Pauli (List ℕ)). o .answer) outcome
 
 sent : take (length run) (carrying widestRun run Y output .lent) ≡ carried
-unfolding carrying onRun byRow carryingRow carriedRun runOf begun startWidth mapped walk follow ended readAt readField judged judgedBy unless decoded fieldAt whole bodyLength number floatAt pauliAt fits hermitian coefficient ys flagged flagAt fieldSize carriedSteps carriedStep passed flipped anti product deciding meets absorbed widened endPauli raised dropped dropBit widthAfter stepRow rotationStepRow promotionStepRow projectionStepRow rotationKernelRow measurementRow hermitianRow widthRow unitRow pivotRow pivotMask inUnit row first answered left le neg ofBits digit overlap parity ones onesIn
-sent = refl
+sent = ap (λ (o : Outcome Pauli (List ℕ)). take (length run) (o .lent)) outcome
 
 runs-here : running widestRun run here .answer ≡ accepted ending
-unfolding running onRun byRow memoryRow surveyOf survey surveyFrom surveyed mixedAmplitudes scratchRoom room roomRow runOf begun startWidth mapped walk follow ended readAt readField judged judgedBy unless decoded fieldAt whole bodyLength number floatAt pauliAt fits hermitian coefficient ys widthAfter stepRow rotationStepRow promotionStepRow projectionStepRow rotationKernelRow measurementRow hermitianRow widthRow unitRow pivotRow pivotMask inUnit row first answered left le neg ofBits digit overlap parity ones onesIn
+unfolding running onRun byRow memoryRow surveyOf survey surveyFrom surveyed mixedAmplitudes roomFor room roomRow runOf begun startWidth mapped walk follow ended readAt readField judged judgedBy unless decoded fieldAt isWhole bodyLength number floatAt pauliAt fits hermitian coefficient ys widthAfter stepRow rotationStepRow promotionStepRow projectionStepRow rotationKernelRow measurementRow hermitianRow widthRow unitRow promotedWidthRow pivotRow pivotMask inUnit row first answered left le neg ofBits digit overlap parity ones onesIn
 runs-here = refl
 
 runs-there : running widestRun run there .answer ≡ accepted ending
-unfolding running onRun byRow memoryRow surveyOf survey surveyFrom surveyed mixedAmplitudes scratchRoom room roomRow runOf begun startWidth mapped walk follow ended readAt readField judged judgedBy unless decoded fieldAt whole bodyLength number floatAt pauliAt fits hermitian coefficient ys widthAfter stepRow rotationStepRow promotionStepRow projectionStepRow rotationKernelRow measurementRow hermitianRow widthRow unitRow pivotRow pivotMask inUnit row first answered left le neg ofBits digit overlap parity ones onesIn
+unfolding running onRun byRow memoryRow surveyOf survey surveyFrom surveyed mixedAmplitudes roomFor room roomRow runOf begun startWidth mapped walk follow ended readAt readField judged judgedBy unless decoded fieldAt isWhole bodyLength number floatAt pauliAt fits hermitian coefficient ys widthAfter stepRow rotationStepRow promotionStepRow projectionStepRow rotationKernelRow measurementRow hermitianRow widthRow unitRow promotedWidthRow pivotRow pivotMask inUnit row first answered left le neg ofBits digit overlap parity ones onesIn
 runs-there = refl
 
 agreeing : Agreeing 1 (here .state) (there .state)
@@ -126,7 +130,7 @@ carriedList =
     ∷ []
 
 reads : runOf widestRun carried ≡ accepted (record { width = 1; steps = carriedList })
-unfolding runOf begun startWidth mapped walk follow ended readAt readField judged judgedBy unless decoded fieldAt whole bodyLength number floatAt pauliAt fits hermitian coefficient ys widthAfter stepRow rotationStepRow promotionStepRow projectionStepRow rotationKernelRow measurementRow hermitianRow widthRow unitRow pivotRow pivotMask inUnit row first answered left le neg ofBits digit overlap parity ones onesIn
+unfolding runOf begun startWidth mapped walk follow ended readAt readField judged judgedBy unless decoded fieldAt isWhole bodyLength number floatAt pauliAt fits hermitian coefficient ys widthAfter stepRow rotationStepRow promotionStepRow projectionStepRow rotationKernelRow measurementRow hermitianRow widthRow unitRow promotedWidthRow pivotRow pivotMask inUnit row first answered left le neg ofBits digit overlap parity ones onesIn
 reads = refl
 
 none : (S : State) → Finite (point S 0) → FiniteState 0 S
@@ -171,6 +175,6 @@ numbers : (b : ℕ) → b < 2 ^ 1 → SameNumber (point (running widestRun run (
 numbers b h = met .same finite-run b h
 
 -- and not all of them are zeros
-alive : T (not (isZero (point (running widestRun run (fired Y here) .lent .state) 0 .im)))
-unfolding running onRun byRow memoryRow surveyOf survey surveyFrom surveyed mixedAmplitudes scratchRoom room roomRow runOf begun startWidth mapped walk follow ended readAt readField judged judgedBy unless decoded fieldAt whole bodyLength number floatAt pauliAt fits hermitian coefficient ys widthAfter stepRow rotationStepRow promotionStepRow projectionStepRow rotationKernelRow measurementRow hermitianRow widthRow unitRow pivotRow pivotMask inUnit row first answered left le neg ofBits digit overlap parity ones onesIn stepped leaves.rotation leaves.promotion leaves.projection leaves.correction leaves.scratchAfter leaves.scratchBy written point over rotated rotatedBy rotatedAlone rotatedWith rotationCoefficient promoted raisedQubit projected remaining remainingBy projectionCoefficient minus source corrected quarters power times conjugate direction negated scale scaled mixed openBit add sub mul ran
-alive = tt
+not-all-zeros : T (not (isZero (point (running widestRun run (fired Y here) .lent .state) 0 .im)))
+unfolding running onRun byRow memoryRow surveyOf survey surveyFrom surveyed mixedAmplitudes roomFor room roomRow runOf begun startWidth mapped walk follow ended readAt readField judged judgedBy unless decoded fieldAt isWhole bodyLength number floatAt pauliAt fits hermitian coefficient ys widthAfter stepRow rotationStepRow promotionStepRow projectionStepRow rotationKernelRow measurementRow hermitianRow widthRow unitRow promotedWidthRow pivotRow pivotMask inUnit row first answered left le neg ofBits digit overlap parity ones onesIn stepped leaves.rotation leaves.promotion leaves.projection leaves.correction leaves.scratchAfter leaves.scratchBy written point over rotated rotatedBy rotatedAlone rotatedWith rotationCoefficient promoted raisedQubit projected remaining remainingBy projectionCoefficient minus source corrected quarters power times conjugate direction negated scale scaled mixed openBit add sub mul ran
+not-all-zeros = tt

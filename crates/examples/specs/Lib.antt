@@ -1,3 +1,4 @@
 pub mod Runs
 pub mod Starred
 pub mod Instance
+pub mod Seven

@@ -1,7 +1,8 @@
 -- Runs written out as bytes, for examples: masks below 256, c and s (or c and q) 0 and 1, invnorm 1. Assumes nothing.
-use mathlib.Core.List.{List, [], _∷_}
-use Prim.Native.Nat.{ℕ}
+use mathlib.Core.List.{List, [], _∷_, _++_}
+use Prim.Native.Nat.{ℕ, suc}
 use lib.Ieee.{Float, binary64, ofBits}
+use lib.ListN.{length, replicate}
 
 abbrev pub zero : Float
 zero = ofBits binary64 0
@@ -39,3 +40,14 @@ correction k x z rest = 5 ∷ 17 ∷ 0 ∷ pauliBytes k x z rest
 -- the start field, the steps, the end field
 abbrev pub runFrom : ℕ → (List ℕ → List ℕ) → List ℕ
 runFrom n steps = 1 ∷ 1 ∷ 0 ∷ n ∷ steps (6 ∷ 0 ∷ 0 ∷ [])
+
+-- a byte that no run here has
+abbrev other : ℕ
+other = 238
+
+-- an output to carry a run into: other bytes, one more than the run has; and the same with the carried run in it, the last byte as it was
+abbrev pub outputFor : List ℕ → List ℕ
+outputFor run = replicate (suc (length run)) other
+
+abbrev pub filledWith : List ℕ → List ℕ
+filledWith carried = carried ++ other ∷ []

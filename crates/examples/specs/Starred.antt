@@ -7,37 +7,34 @@ use lib.Ieee.{Float, binary64, ofBits, neg, mul, le}
 use Rattle.answers.specs.Answer.{refuse, valueOr}
 use Rattle.answers.specs.Answer.Answer.{accepted}
 use Rattle.bitlaws.specs.Digit.{digit, put}
-use Rattle.bitlaws.specs.Opening.{openBit}
+use Rattle.bitlaws.specs.Opening.{openBit, dropBit}
 use Rattle.bitlaws.specs.Parity.{overlap, parity}
 use Rattle.bitlaws.specs.Source.{source}
 use Rattle.bits.specs.Opening.{opening}
-use Rattle.paulilaws.specs.Pauli.{Pauli, identity, product, coefficient, ys}
+use Rattle.paulilaws.specs.Pauli.{Pauli, identity, product, coefficient, ys, anti, fits, hermitian}
 use Rattle.paulilaws.specs.Letter.{letterAt, withLetter}
 use Rattle.paulitext.specs.Text.{letterOfByte, reading, prefix, lettersFrom, body, shown}
 use Rattle.paulitext.specs.Calls.{readCall}
-use Rattle.paulilaws.specs.Pauli.{anti, fits, hermitian}
 use Rattle.paulilaws.specs.Frame.{raised as raisedPhase, dropped}
-use Rattle.bitlaws.specs.Opening.{dropBit}
 use Rattle.answers.specs.Row.{row, first, answered, left}
 use Rattle.statelaws.specs.Over.{over}
 use Rattle.amplitudelaws.specs.Arithmetic.{scale}
-use Rattle.amplitudelaws.specs.Binary.{binary, Point}
+use Rattle.amplitudelaws.specs.Binary.{binary, Point, inUnit}
 use Rattle.amplitudelaws.specs.Promotion.{raised, promoted}
 use Rattle.amplitudelaws.specs.Projection.{minus, remaining, remainingBy}
-use Rattle.amplitudelaws.specs.Binary.{inUnit}
 use Rattle.amplitudelaws.specs.Rows.{rotationKernelRow, measurementRow, hermitianRow, widthRow, unitRow, pivotRow, pivotMask}
 use Rattle.amplitudelaws.specs.State.{stateOf, point, written}
 use Rattle.amplitudelaws.specs.Steps.{promotion}
-use Rattle.framelaws.specs.Step.{widthAfter}
+use Rattle.amplitudelaws.specs.Step.{widthAfter}
 use Rattle.framelaws.specs.Rows.{stepRow, rotationStepRow, projectionStepRow}
 use Rattle.framelaws.specs.Carrying.{flipped, deciding, meets, absorbed, carriedStep, passed, carriedSteps, endPauli}
 use Rattle.runlaws.specs.Bytes.{number, floatAt, pauliAt}
-use Rattle.runlaws.specs.Field.{bodyLength, whole, fieldAt}
+use Rattle.runlaws.specs.Field.{bodyLength, isWhole, fieldAt}
 use Rattle.runlaws.specs.Reading.{decoded, unless, judgedBy, judged, readField, readAt}
 use Rattle.runlaws.specs.Run.{widestRun, mapped, ended, follow, walk, startWidth, begun, runOf}
 use Rattle.runlaws.specs.Flags.{fieldSize, flagAt, flagged}
 use Rattle.runlaws.specs.Calls.{onRun, byRow, carryingRow, carriedRun, carrying}
-use Rattle.examples.specs.Runs.{zero, one, runFrom, rotation, projection}
+use Rattle.examples.specs.Runs.{zero, one, runFrom, rotation, projection, outputFor, filledWith}
 
 -- the Pauli that a text spells
 pauli : List ℕ → Pauli
@@ -77,9 +74,9 @@ xProjection branch = runFrom 1 (projection 0 1 0 0 branch)
 abbrev phase : ℕ → Pauli
 phase k = record { n = 0; k = k; x = 0; z = 0 }
 
--- what carrying a Pauli through a run gives, into an output that holds the run already: the carried run, and the end Pauli
+-- what carrying a Pauli through a run gives, into an output of other bytes, longer by one: the end Pauli, and the carried run in it, the last byte as it was
 abbrev Carries : List ℕ → Pauli → List ℕ → Pauli → Type 0
-Carries run Q carried end = carrying widestRun run Q run ≡ record { answer = accepted end; lent = carried }
+Carries run Q carried end = carrying widestRun run Q (outputFor run) ≡ record { answer = accepted end; lent = filledWith carried }
 
 record Starred : Type 0 where
   open-bit-1-of-5 : opening 5 1 ≡ accepted 9
@@ -94,7 +91,7 @@ record Starred : Type 0 where
   promoting-1 : promotion 0 zero one (stateOf (one ∷ zero ∷ []) (zero ∷ zero ∷ [])) ≡ stateOf (zero ∷ minusZero ∷ []) (zero ∷ one ∷ [])
 
 starred : Starred
-unfolding opening openBit refuse pauli valueOr readCall reading letterOfByte withLetter letterAt digit put product overlap parity ones onesIn coefficient ys shown prefix body lettersFrom minus remainingBy remaining source scale raised promoted promotion point written over mul neg ofBits carrying onRun byRow carryingRow carriedRun runOf begun startWidth mapped walk follow ended readAt readField judged judgedBy unless decoded fieldAt whole bodyLength number floatAt pauliAt fits hermitian flagged flagAt fieldSize carriedSteps carriedStep passed flipped anti deciding meets absorbed endPauli raisedPhase dropped dropBit widthAfter stepRow rotationStepRow projectionStepRow rotationKernelRow measurementRow hermitianRow widthRow unitRow pivotRow pivotMask inUnit row first answered left le
+unfolding opening openBit refuse pauli valueOr readCall reading letterOfByte withLetter letterAt digit put product overlap parity ones onesIn coefficient ys shown prefix body lettersFrom minus remainingBy remaining source scale raised promoted promotion point written over mul neg ofBits carrying onRun byRow carryingRow carriedRun runOf begun startWidth mapped walk follow ended readAt readField judged judgedBy unless decoded fieldAt isWhole bodyLength number floatAt pauliAt fits hermitian flagged flagAt fieldSize carriedSteps carriedStep passed flipped anti deciding meets absorbed endPauli raisedPhase dropped dropBit widthAfter stepRow rotationStepRow projectionStepRow rotationKernelRow measurementRow hermitianRow widthRow unitRow pivotRow pivotMask inUnit row first answered left le
 starred = record {
   open-bit-1-of-5 = refl;
   x-times-z = refl;

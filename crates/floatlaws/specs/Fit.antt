@@ -1,7 +1,7 @@
 -- A float that fits its format is known by its sign and its value. So rounding it again changes nothing, and a zero added, or a factor one,
 -- leaves it as it is. Assumes nothing.
 use mathlib.Core.Path.{_≡_, refl, sym, ap, _∙_, subst}
-use mathlib.Core.Bool.{Bool, true, false, _&&_}
+use mathlib.Core.Bool.{Bool, false, _&&_}
 use Prim.Native.Nat.{ℕ, zero, suc, _+_, _-_, _*_, _%_, _^_, _≤_, _<_}
 use native.Mathlib.Nat.{lt-irrefl, lt-of-not-le, le-of-suc-le-suc, not-le-of-lt, zero-lt-suc, lt-of-mul-lt-mul-right, mul-lt-mul-of-pos-right, mul-pos}
 use native.Mathlib.Nat.{zero-mul, mul-one, one-mul, mul-comm, mul-assoc, mul-left-comm, mul-right-comm, eq-of-mul-eq-mul-right, pow-suc, pow-succ'}
@@ -9,14 +9,14 @@ use native.Mathlib.Omega.{arith}
 use lib.IntN.{ℤ, pos, negsuc}
 use lib.Dec.{T, leb, ltb, eqb, eqb→eq, ltb→lt, leb→le}
 use lib.Pow.{pow-add, pow-pos, pow-lt}
-use lib.Ieee.{Float, nan, inf, fin, Format, prec, emax, low, up, down, round, neg, add, mul, fits}
+use lib.Ieee.{Float, nan, inf, fin, Format, prec, emax, low, up, down, round, add, mul, fits}
 use lib.Ieee.Digits.{back}
 use lib.Ieee.Exact.{HasValue, round-exact}
 use lib.Ieee.Fits.{and-l, and-r, round-fits, up-pos, down-pos}
 use Rattle.floatlaws.specs.Same.{Same, same-eq, _⨾_, isZero}
 use Rattle.floatlaws.specs.Round.{again, round-zero}
-use Rattle.floatlaws.specs.Sum.{add-zero-left, add-zero-right}
-use Rattle.floatlaws.specs.Product.{mul-one-left, mul-minus-one-left}
+use Rattle.floatlaws.specs.Sum.{add-zero-right}
+use Rattle.floatlaws.specs.Product.{mul-one-left}
 
 -- what it takes for m * 2 ^ e, m above 0, to fit
 record Held (f : Format) (m : ℕ) (e : ℤ) : Type 0 where
@@ -57,13 +57,14 @@ fits-zero f s e t = unit-exponent e (eqb→eq (up e * down e) 1 t)
 odd-not-even : (m t : ℕ) → m % 2 ≡ 1 → m ≡ 2 * t → ⊥
 odd-not-even m t o h = omega arith
 
+odd-not-twice : (m n b : ℕ) → m % 2 ≡ 1 → m * 2 ^ 0 ≡ n * 2 ^ suc b → ⊥
+odd-not-twice m n b o h = odd-not-even m (n * 2 ^ b) o (sym (mul-one m) ∙ h ∙ ap (λ (x : ℕ). n * x) (pow-succ' 2 b) ∙ mul-left-comm n 2 (2 ^ b))
+
 -- an odd number and a power of two are known by their product
 odd-power : (m n a b : ℕ) → m % 2 ≡ 1 → n % 2 ≡ 1 → m * 2 ^ a ≡ n * 2 ^ b → (m ≡ n) × (a ≡ b)
 odd-power m n zero zero o p h = (sym (mul-one m) ∙ h ∙ mul-one n, refl)
-odd-power m n zero (suc b) o p h =
-    absurd (odd-not-even m (n * 2 ^ b) o (sym (mul-one m) ∙ h ∙ ap (λ (x : ℕ). n * x) (pow-succ' 2 b) ∙ mul-left-comm n 2 (2 ^ b)))
-odd-power m n (suc a) zero o p h =
-    absurd (odd-not-even n (m * 2 ^ a) p (sym (mul-one n) ∙ sym h ∙ ap (λ (x : ℕ). m * x) (pow-succ' 2 a) ∙ mul-left-comm m 2 (2 ^ a)))
+odd-power m n zero (suc b) o p h = absurd (odd-not-twice m n b o h)
+odd-power m n (suc a) zero o p h = absurd (odd-not-twice n m a p (sym h))
 odd-power m n (suc a) (suc b) o p h = let r = odd-power m n a b o p half in (r .0, ap suc (r .1))
   where
     half : m * 2 ^ a ≡ n * 2 ^ b
@@ -72,16 +73,18 @@ odd-power m n (suc a) (suc b) o p h = let r = odd-power m n a b o p half in (r .
 not-none : (a b : ℕ) → a + suc b ≡ 0 → ⊥
 not-none a b h = omega arith
 
+-- m * 2 ^ a is not n / 2 ^ (b + 1)
+no-fraction : (m n a b : ℕ) → m % 2 ≡ 1 → n % 2 ≡ 1 → m * 2 ^ a * 2 ^ suc b ≡ n * 1 * 1 → ⊥
+no-fraction m n a b o p h =
+    let whole : m * 2 ^ (a + suc b) ≡ n * 1 = ap (λ (x : ℕ). m * x) (pow-add 2 a (suc b)) ∙ sym (mul-assoc m (2 ^ a) (2 ^ suc b)) ∙ h ∙ mul-one (n * 1) in
+    not-none a b (odd-power m n (a + suc b) 0 o p whole .1)
+
 -- and so where the power has a sign: m * 2 ^ e and n * 2 ^ d
 odd-exponent : (m n : ℕ) (e d : ℤ) → m % 2 ≡ 1 → n % 2 ≡ 1 → m * up e * down d ≡ n * up d * down e → (m ≡ n) × (e ≡ d)
 odd-exponent m n (pos a) (pos b) o p h =
     let r = odd-power m n a b o p (sym (mul-one (m * 2 ^ a)) ∙ h ∙ mul-one (n * 2 ^ b)) in (r .0, ap pos (r .1))
-odd-exponent m n (pos a) (negsuc b) o p h =
-    let whole : m * 2 ^ (a + suc b) ≡ n * 1 = ap (λ (x : ℕ). m * x) (pow-add 2 a (suc b)) ∙ sym (mul-assoc m (2 ^ a) (2 ^ suc b)) ∙ h ∙ mul-one (n * 1) in
-    absurd (not-none a b (odd-power m n (a + suc b) 0 o p whole .1))
-odd-exponent m n (negsuc a) (pos b) o p h =
-    let whole : n * 2 ^ (b + suc a) ≡ m * 1 = ap (λ (x : ℕ). n * x) (pow-add 2 b (suc a)) ∙ sym (mul-assoc n (2 ^ b) (2 ^ suc a)) ∙ sym h ∙ mul-one (m * 1) in
-    absurd (not-none b a (odd-power n m (b + suc a) 0 p o whole .1))
+odd-exponent m n (pos a) (negsuc b) o p h = absurd (no-fraction m n a b o p h)
+odd-exponent m n (negsuc a) (pos b) o p h = absurd (no-fraction n m b a p o (sym h))
 odd-exponent m n (negsuc a) (negsuc b) o p h =
     let r = odd-power m n (suc b) (suc a) o p (rw (mul-one m, mul-one n) at h) in
     let less : a ≡ b = omega (arith, r .1) in
@@ -97,7 +100,7 @@ zero-not-above : (a b n : ℕ) (e d : ℤ) → 0 * a * b ≡ suc n * up e * down
 zero-not-above a b n e d h = lt-irrefl 0 (subst (λ (x : ℕ). 0 < x) (sym h ∙ simp zero-mul) (mul-pos (mul-pos (zero-lt-suc n) (up-pos e)) (down-pos d)))
 
 -- two floats that fit, with one sign and one value
-pub value-unique : (f : Format) (x y : Float) (s : Bool) (a c : ℕ) → 0 < c → T (fits f x) → T (fits f y) → HasValue x s a c → HasValue y s a c → x ≡ y
+value-unique : (f : Format) (x y : Float) (s : Bool) (a c : ℕ) → 0 < c → T (fits f x) → T (fits f y) → HasValue x s a c → HasValue y s a c → x ≡ y
 value-unique f nan y s a c z p q v w = absurd v
 value-unique f (inf t) y s a c z p q v w = absurd v
 value-unique f (fin t m e) nan s a c z p q v w = absurd w
@@ -140,22 +143,16 @@ round-fin f s m e t =
     (round-exact f s (suc m * up e) (down e) (suc m) (j .0) (down-pos e) (held .short) below (j .1)) (refl, refl)
 
 -- rounding again changes nothing
-pub again-fits : (f : Format) (x : Float) → T (fits f x) → again f x ≡ x
+again-fits : (f : Format) (x : Float) → T (fits f x) → again f x ≡ x
 again-fits f nan t = refl
 again-fits f (inf s) t = refl
 again-fits f (fin s zero e) t = rw (zero-mul (up e), round-zero f s (down e) (down-pos e), fits-zero f s e t)
 again-fits f (fin s (suc m) e) t = round-fin f s m e t
 
 -- a zero added
-pub add-none-left : (f : Format) (z x : Float) → T (fits f x) → T (isZero z) → Same (add f z x) x
-add-none-left f z x h k = add-zero-left f z x k ⨾ same-eq (again-fits f x h)
-
 pub add-none-right : (f : Format) (x z : Float) → T (fits f x) → T (isZero z) → Same (add f x z) x
 add-none-right f x z h k = add-zero-right f x z k ⨾ same-eq (again-fits f x h)
 
--- times one, and times minus one
+-- times one
 pub mul-one-fits : (f : Format) (x : Float) → T (fits f x) → mul f (fin false 1 (pos 0)) x ≡ x
 mul-one-fits f x h = mul-one-left f x ∙ again-fits f x h
-
-pub mul-minus-one-fits : (f : Format) (x : Float) → T (fits f x) → mul f (fin true 1 (pos 0)) x ≡ neg x
-mul-minus-one-fits f x h = mul-minus-one-left f x ∙ ap neg (again-fits f x h)

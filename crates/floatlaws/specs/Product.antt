@@ -1,15 +1,15 @@
 -- Products: a zero or a one among the factors, and the same for the same. Assumes nothing.
-use mathlib.Core.Path.{_≡_, refl, ap, _∙_}
+use mathlib.Core.Path.{_≡_, refl}
 use mathlib.Core.Bool.{Bool, true, false}
 use Prim.Native.Nat.{zero, suc, _*_}
 use native.Mathlib.Nat.{zero-mul, one-mul, mul-pos}
 use lib.IntN.{ℤ, pos}
 use lib.Dec.{T}
-use lib.Ieee.{Float, nan, inf, fin, Format, up, down, unlike, neg, mul}
+use lib.Ieee.{Float, nan, inf, fin, Format, up, down, unlike, mul}
 use lib.Ieee.Fits.{down-pos}
 use lib.Ieee.Scale.{finite}
-use Rattle.floatlaws.specs.Same.{plain, Same, same, same-eq, same-sym, _⨾_, isZero, same-zeros}
-use Rattle.floatlaws.specs.Sign.{mul-comm-float, mul-neg-left}
+use Rattle.floatlaws.specs.Same.{plain, Same, same, isZero, by-zero, same-zeros, same-both}
+use Rattle.floatlaws.specs.Sign.{mul-comm-float}
 use Rattle.floatlaws.specs.Round.{again, round-none}
 
 mul-zero-fin : (f : Format) (s : Bool) (e : ℤ) (y : Float) → T (finite y) → T (isZero (mul f (fin s 0 e) y))
@@ -21,15 +21,9 @@ mul-zero-fin f s e (fin t n d) h =
 
 -- a zero times a finite float; times an infinity it is no number
 pub mul-zero-left : (f : Format) (x y : Float) → T (isZero x) → T (finite y) → T (isZero (mul f x y))
-mul-zero-left f nan y h k = absurd h
-mul-zero-left f (inf s) y h k = absurd h
-mul-zero-left f (fin s zero e) y h k = mul-zero-fin f s e y k
-mul-zero-left f (fin s (suc m) e) y h k = absurd h
+mul-zero-left f x y h k = by-zero (λ z. T (isZero (mul f z y))) (λ s e. mul-zero-fin f s e y k) x h
 
-pub mul-zero-right : (f : Format) (x y : Float) → T (finite x) → T (isZero y) → T (isZero (mul f x y))
-mul-zero-right f x y h k = rw (mul-comm-float f x y) (mul-zero-left f y x k h)
-
--- a product sees no more of a factor than `plain` leaves
+-- a product depends on no more of a factor than `plain` leaves
 mul-plain : (f : Format) (x y : Float) → Same (mul f x y) (mul f (plain x) y)
 unfolding mul
 mul-plain f nan y = same
@@ -39,13 +33,10 @@ mul-plain f (fin s zero e) (inf t) = same
 mul-plain f (fin s zero e) (fin t n d) = same-zeros (mul-zero-fin f s e (fin t n d) tt) (mul-zero-fin f false (pos 0) (fin t n d) tt)
 mul-plain f (fin s (suc m) e) y = same
 
-mul-left : (f : Format) (x x' y : Float) → Same x x' → Same (mul f x y) (mul f x' y)
-mul-left f x x' y h = mul-plain f x y ⨾ same-eq (ap (λ (z : Float). mul f z y) (h .plainly)) ⨾ same-sym (mul-plain f x' y)
-
 pub same-mul : (f : Format) {x x' y y' : Float} → Same x x' → Same y y' → Same (mul f x y) (mul f x' y')
-same-mul f {x} {x'} {y} {y'} h k = mul-left f x x' y h ⨾ same-eq (mul-comm-float f x' y) ⨾ mul-left f y y' x' k ⨾ same-eq (mul-comm-float f y' x')
+same-mul f h k = same-both (mul f) (mul-comm-float f) (mul-plain f) h k
 
--- times one, and times minus one
+-- times one
 pub mul-one-left : (f : Format) (y : Float) → mul f (fin false 1 (pos 0)) y ≡ again f y
 unfolding mul
 mul-one-left f nan = refl
@@ -53,7 +44,3 @@ mul-one-left f (inf true) = refl
 mul-one-left f (inf false) = refl
 mul-one-left f (fin true n d) = rw (one-mul (n * up d), one-mul (down d))
 mul-one-left f (fin false n d) = rw (one-mul (n * up d), one-mul (down d))
-
-pub mul-minus-one-left : (f : Format) (y : Float) → mul f (fin true 1 (pos 0)) y ≡ neg (again f y)
-unfolding neg
-mul-minus-one-left f y = mul-neg-left f (fin false 1 (pos 0)) y ∙ ap neg (mul-one-left f y)

@@ -1,12 +1,11 @@
--- The laws as lists for the tactics, a law by each, and terms that change places. Assumes nothing.
-use mathlib.Core.Path.{_≡_}
+-- The laws as lists for the tactics, and terms that change places. Assumes nothing.
 use mathlib.Core.Logic.{_⊎_, ⊎-elim}
 use lib.Dec.{T}
-use lib.Ieee.{Float, Format, neg, add, mul, fits}
+use lib.Ieee.{Float, Format, add, fits}
 use lib.Ieee.Fits.{add-fits}
 use Rattle.floatlaws.specs.Same.{Same, same, same-sym, _⨾_, isZero}
 use Rattle.floatlaws.specs.Sign.{neg-neg, same-neg, mul-neg-left, mul-neg-right}
-use Rattle.floatlaws.specs.Sum.{add-neg, same-add, same-sub}
+use Rattle.floatlaws.specs.Sum.{same-add, same-sub}
 use Rattle.floatlaws.specs.Product.{same-mul}
 use Rattle.floatlaws.specs.Fit.{add-none-right}
 
@@ -15,12 +14,6 @@ pub ruleset Same·cong = (_⨾_, same, same-add, same-sub, same-mul, same-neg)
 
 -- for `simp`: signs out of products, and two of them gone
 pub ruleset Sign·simp = (neg-neg, mul-neg-left, mul-neg-right)
-
-pub mul-neg-neg : (f : Format) (a b : Float) → mul f (neg a) (neg b) ≡ mul f a b
-mul-neg-neg f a b = simp Sign·simp
-
-pub three-neg : (f : Format) (a b c : Float) → Same (add f (add f (neg a) (neg b)) (neg c)) (neg (add f (add f a b) c))
-three-neg f a b c = grw (Same·cong, add-neg, add-neg)
 
 -- a sum of three rounds twice, and which two terms go first counts; not where one of the later two is a zero
 pub zero-swap : (f : Format) (a b c : Float) → T (fits f a) → T (isZero b) ⊎ T (isZero c) → Same (add f (add f a b) c) (add f (add f a c) b)

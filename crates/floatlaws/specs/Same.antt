@@ -4,10 +4,9 @@ use mathlib.Core.Path.{_≡_, refl, sym, ap, _∙_, subst}
 use mathlib.Core.Bool.{Bool, true, false}
 use mathlib.Core.Logic.{_⊎_, inl, inr, ⊎-elim}
 use Prim.Native.Nat.{zero, suc}
-use lib.IntN.{pos}
+use lib.IntN.{ℤ, pos}
 use lib.Dec.{T}
 use lib.Ieee.{Float, nan, inf, fin}
-use lib.Ieee.Scale.{finite}
 
 -- every zero as the one zero +0, any other float as it is
 abbrev pub plain : Float → Float
@@ -16,7 +15,7 @@ plain (inf s) = inf s
 plain (fin s zero e) = fin false zero (pos zero)
 plain (fin s (suc m) e) = fin s (suc m) e
 
--- an equation, so that it is reflexive, symmetric and transitive; `same-says` and `says-same` are the definition in words
+-- an equation, so that it is reflexive, symmetric and transitive; `same-says` is the definition in words
 pub record Same (x y : Float) : Type 0 where
   pub plainly : plain x ≡ plain y
 
@@ -40,17 +39,15 @@ isZero (inf s) = false
 isZero (fin s zero e) = true
 isZero (fin s (suc m) e) = false
 
-zeros-plain : (x y : Float) → T (isZero x) → T (isZero y) → plain x ≡ plain y
-zeros-plain nan y p q = absurd p
-zeros-plain (inf s) y p q = absurd p
-zeros-plain (fin s zero e) nan p q = absurd q
-zeros-plain (fin s zero e) (inf t) p q = absurd q
-zeros-plain (fin s zero e) (fin t zero d) p q = refl
-zeros-plain (fin s zero e) (fin t (suc n) d) p q = absurd q
-zeros-plain (fin s (suc m) e) y p q = absurd p
+-- what holds of a zero, written with any sign and exponent, holds of a float that is one
+pub by-zero : (P : Float → Type 0) → ((s : Bool) (e : ℤ) → P (fin s zero e)) → (x : Float) → T (isZero x) → P x
+by-zero P h nan z = absurd z
+by-zero P h (inf s) z = absurd z
+by-zero P h (fin s zero e) z = h s e
+by-zero P h (fin s (suc m) e) z = absurd z
 
 pub same-zeros : {x y : Float} → T (isZero x) → T (isZero y) → Same x y
-same-zeros {x} {y} p q = record { plainly = zeros-plain x y p q }
+same-zeros {x} {y} p q = by-zero (λ z. Same z y) (λ s e. by-zero (λ z. Same (fin s zero e) z) (λ t d. record { plainly = refl }) y q) x p
 
 zero-plain : (x : Float) → isZero (plain x) ≡ isZero x
 zero-plain nan = refl
@@ -59,7 +56,7 @@ zero-plain (fin s zero e) = refl
 zero-plain (fin s (suc m) e) = refl
 
 -- what is the same as a zero is a zero
-pub zero-same : {x y : Float} → Same x y → T (isZero x) → T (isZero y)
+zero-same : {x y : Float} → Same x y → T (isZero x) → T (isZero y)
 zero-same {x} {y} h = subst T (sym (zero-plain x) ∙ ap isZero (h .plainly) ∙ zero-plain y)
 
 plain-cases : (x : Float) → T (isZero x) ⊎ (plain x ≡ x)
@@ -68,22 +65,18 @@ plain-cases (inf s) = inr refl
 plain-cases (fin s zero e) = inl tt
 plain-cases (fin s (suc m) e) = inr refl
 
--- the definition in words, one way and the other
+-- the definition in words
 pub same-says : (x y : Float) → Same x y → (x ≡ y) ⊎ (T (isZero x) × T (isZero y))
 same-says x y h =
     ⊎-elim (λ p. inr (p, zero-same h p))
     (λ p. ⊎-elim (λ q. inr (zero-same (same-sym h) q, q)) (λ q. inl (sym p ∙ h .plainly ∙ q)) (plain-cases y))
     (plain-cases x)
 
-pub says-same : (x y : Float) → (x ≡ y) ⊎ (T (isZero x) × T (isZero y)) → Same x y
-says-same x y = ⊎-elim (λ h. same-eq h) (λ z. same-zeros (z .0) (z .1))
+-- ---- the same for the same: an operation that commutes, and depends on no more of its first operand than `plain` leaves
 
-finite-plain : (x : Float) → finite (plain x) ≡ finite x
-finite-plain nan = refl
-finite-plain (inf s) = refl
-finite-plain (fin s zero e) = refl
-finite-plain (fin s (suc m) e) = refl
+module _ (op : Float → Float → Float) (comm : (x y : Float) → op x y ≡ op y x) (plainly-first : (x y : Float) → Same (op x y) (op (plain x) y)) where
+  same-first : (x x' y : Float) → Same x x' → Same (op x y) (op x' y)
+  same-first x x' y h = plainly-first x y ⨾ same-eq (ap (λ (z : Float). op z y) (h .plainly)) ⨾ same-sym (plainly-first x' y)
 
--- what is the same as a finite float is finite
-pub finite-same : {x y : Float} → Same x y → T (finite x) → T (finite y)
-finite-same {x} {y} h = subst T (sym (finite-plain x) ∙ ap finite (h .plainly) ∙ finite-plain y)
+  pub same-both : {x x' y y' : Float} → Same x x' → Same y y' → Same (op x y) (op x' y')
+  same-both {x} {x'} {y} {y'} h k = same-first x x' y h ⨾ same-eq (comm x' y) ⨾ same-first y y' x' k ⨾ same-eq (comm y' x')

@@ -39,7 +39,7 @@ units-neg f s q k = go (ltb (q * 2 ^ k) (2 ^ (low f + suc (emax f))))
     go true = odd-neg (suc (prec f)) s q k (low f)
     go false = refl
 
--- rounding to nearest does not look at the sign
+-- rounding to nearest does not depend on the sign
 pub round-neg : (f : Format) (s : Bool) (n d : ℕ) → neg (round f s n d) ≡ round f (not s) n d
 round-neg f s n d = ap neg (round-is f s n d) ∙ units-neg f s _ _ ∙ sym (round-is f (not s) n d)
 

@@ -1,5 +1,5 @@
 -- Sums: the order of the two terms, their signs, a zero among them, and the same for the same. Assumes nothing.
-use mathlib.Core.Path.{_≡_, refl, sym, ap, _∙_}
+use mathlib.Core.Path.{_≡_, refl, sym, _∙_}
 use mathlib.Core.Bool.{Bool, true, false, not, _&&_, Bool·beq, cond}
 use Prim.Native.Nat.{ℕ, zero, suc, _+_, _-_, _*_, _≤_, _<_}
 use native.Mathlib.Nat.{add-comm, zero-add, sub-zero, zero-sub, mul-comm, mul-assoc, zero-mul, mul-pos}
@@ -9,7 +9,7 @@ use lib.Dec.{T, ltb, ltb→lt, nltb→le}
 use lib.Ieee.{Float, nan, inf, fin, Format, up, down, round, neg, sum, add, sub}
 use lib.Ieee.Fits.{down-pos}
 use lib.Ieee.Scale.{round-same}
-use Rattle.floatlaws.specs.Same.{plain, Same, same, same-eq, same-sym, _⨾_, isZero, same-zeros}
+use Rattle.floatlaws.specs.Same.{plain, Same, same, same-eq, same-sym, _⨾_, isZero, by-zero, same-zeros, same-both}
 use Rattle.floatlaws.specs.Sign.{neg-neg, same-neg, round-neg}
 use Rattle.floatlaws.specs.Round.{again, round-none}
 
@@ -46,10 +46,7 @@ add-comm-float f (fin s m e) (fin t n d) =
 
 pub zero-neg : (x : Float) → T (isZero x) → T (isZero (neg x))
 unfolding neg
-zero-neg nan h = h
-zero-neg (inf s) h = h
-zero-neg (fin s zero e) h = h
-zero-neg (fin s (suc m) e) h = h
+zero-neg x h = by-zero (λ z. T (isZero (neg z))) (λ s e. tt) x h
 
 -- the difference with both signs turned, and the difference negated: equal, but +0 and -0 where a and b are equal
 difference-neg : (f : Format) (a b c : ℕ) → 0 < c → (p q : Bool) → (T (not q) → a ≤ b)
@@ -81,10 +78,6 @@ add-neg f (fin s m e) nan = same
 add-neg f (fin s m e) (inf t) = same
 add-neg f (fin s m e) (fin t n d) = sum-neg f s (m * up e * down d) t (n * up d * down e) (down e * down d) (mul-pos (down-pos e) (down-pos d))
 
-pub sub-neg : (f : Format) (x y : Float) → Same (sub f x y) (neg (sub f y x))
-unfolding sub
-sub-neg f x y = same-eq (ap (λ (z : Float). add f z (neg y)) (sym (neg-neg x)) ∙ add-comm-float f (neg (neg x)) (neg y)) ⨾ add-neg f y (neg x)
-
 -- zero plus b / c, by the two signs; p stands for the test 0 < b
 none-plus : (f : Format) (b c : ℕ) → 0 < c → (s t p : Bool) → (T (not p) → b ≤ 0)
     → Same (cond (Bool·beq s t) (round f s (0 + b) c) (cond p (round f t (b - 0) c) (round f (s && ltb b 0) (0 - b) c))) (round f t b c)
@@ -110,27 +103,21 @@ add-zero-fin f s e (fin t n d) =
     ⨾ same-eq (round-same f t (n * up d * down e) (down e * down d) (n * up d) (down d) den (down-pos d) (mul-assoc (n * up d) (down e) (down d))))
 
 -- a zero added leaves the other term, rounded
-pub add-zero-left : (f : Format) (x y : Float) → T (isZero x) → Same (add f x y) (again f y)
-add-zero-left f nan y h = absurd h
-add-zero-left f (inf s) y h = absurd h
-add-zero-left f (fin s zero e) y h = add-zero-fin f s e y
-add-zero-left f (fin s (suc m) e) y h = absurd h
+add-zero-left : (f : Format) (x y : Float) → T (isZero x) → Same (add f x y) (again f y)
+add-zero-left f x y h = by-zero (λ z. Same (add f z y) (again f y)) (λ s e. add-zero-fin f s e y) x h
 
 pub add-zero-right : (f : Format) (x y : Float) → T (isZero y) → Same (add f x y) (again f x)
 add-zero-right f x y h = same-eq (add-comm-float f x y) ⨾ add-zero-left f y x h
 
--- a sum sees no more of a term than `plain` leaves
+-- a sum depends on no more of a term than `plain` leaves
 add-plain : (f : Format) (x y : Float) → Same (add f x y) (add f (plain x) y)
 add-plain f nan y = same
 add-plain f (inf s) y = same
 add-plain f (fin s zero e) y = add-zero-fin f s e y ⨾ same-sym (add-zero-fin f false (pos 0) y)
 add-plain f (fin s (suc m) e) y = same
 
-add-left : (f : Format) (x x' y : Float) → Same x x' → Same (add f x y) (add f x' y)
-add-left f x x' y h = add-plain f x y ⨾ same-eq (ap (λ (z : Float). add f z y) (h .plainly)) ⨾ same-sym (add-plain f x' y)
-
 pub same-add : (f : Format) {x x' y y' : Float} → Same x x' → Same y y' → Same (add f x y) (add f x' y')
-same-add f {x} {x'} {y} {y'} h k = add-left f x x' y h ⨾ same-eq (add-comm-float f x' y) ⨾ add-left f y y' x' k ⨾ same-eq (add-comm-float f y' x')
+same-add f h k = same-both (add f) (add-comm-float f) (add-plain f) h k
 
 pub same-sub : (f : Format) {x x' y y' : Float} → Same x x' → Same y y' → Same (sub f x y) (sub f x' y')
 unfolding sub

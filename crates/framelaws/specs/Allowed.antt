@@ -7,8 +7,8 @@ use Rattle.amplitudelaws.specs.State.{State, point}
 use Rattle.framelaws.specs.Alike.{Finite}
 use Rattle.framelaws.specs.Memory.{Memory, stepped}
 use Rattle.framelaws.specs.Rows.{stepRow}
-use Rattle.framelaws.specs.Step.{Step, widthAfter}
-use Rattle.framelaws.specs.Step.Step.{rotation, promotion, projection, correction}
+use Rattle.amplitudelaws.specs.Step.{Step, widthAfter}
+use Rattle.amplitudelaws.specs.Step.Step.{rotation, promotion, projection, correction}
 
 -- a step's Pauli is on n qubits
 abbrev pub Placed : ℕ → Step Float → Type 0

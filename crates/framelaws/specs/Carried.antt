@@ -9,27 +9,30 @@ use borrow.Author.Tests.{le-ltb}
 use Rattle.answers.specs.Row.{row, first, first-passed, first-none}
 use Rattle.bitlaws.specs.Digit.{mod-two}
 use Rattle.paulilaws.specs.Pauli.{Pauli, anti}
-use Rattle.framelaws.specs.Step.{Step, widthAfter}
-use Rattle.framelaws.specs.Step.Step.{rotation, promotion, projection, correction}
+use Rattle.amplitudelaws.specs.Step.{Step, widthAfter}
+use Rattle.amplitudelaws.specs.Step.Step.{rotation, promotion, projection, correction}
 use Rattle.framelaws.specs.Rows.{rotationStepRow, projectionStepRow, stepRow}
 use Rattle.framelaws.specs.Carrying.{flipped, carriedStep, passed, carriedSteps}
 use Rattle.framelaws.specs.Survey.{Survey, surveyed, surveyFrom, outset, survey, mixedAmplitudes}
 
 module _ {R : Type 0} where
-  module _ (n : ℕ) (Q : Pauli) where
-    pub after-carried : (t : Step R) → widthAfter n (carriedStep Q t) ≡ widthAfter n t
-    unfolding widthAfter carriedStep
-    after-carried (rotation P sign c s) = refl
-    after-carried (promotion c q) = refl
-    after-carried (projection M p v invnorm) = refl
-    after-carried (correction P) = refl
+  -- what looks at no sign and no branch is the same of a carried step
+  pub flagless-carried : {A : Type 0} (f : Step R → A) → ((P : Pauli) (sign sign' : ℕ) (c s : R) → f (rotation P sign c s) ≡ f (rotation P sign' c s))
+      → ((M : Pauli) (p v v' : ℕ) (invnorm : R) → f (projection M p v invnorm) ≡ f (projection M p v' invnorm))
+      → (Q : Pauli) (t : Step R) → f (carriedStep Q t) ≡ f t
+  unfolding carriedStep
+  flagless-carried f signs branches Q (rotation P sign c s) = signs P (flipped Q P sign) sign c s
+  flagless-carried f signs branches Q (promotion c q) = refl
+  flagless-carried f signs branches Q (projection M p v invnorm) = branches M p (flipped Q M v) v invnorm
+  flagless-carried f signs branches Q (correction P) = refl
 
-    mixed-carried : (t : Step R) → mixedAmplitudes n (carriedStep Q t) ≡ mixedAmplitudes n t
-    unfolding mixedAmplitudes carriedStep
-    mixed-carried (rotation P sign c s) = refl
-    mixed-carried (promotion c q) = refl
-    mixed-carried (projection M p v invnorm) = refl
-    mixed-carried (correction P) = refl
+  pub after-carried : (n : ℕ) (Q : Pauli) (t : Step R) → widthAfter n (carriedStep Q t) ≡ widthAfter n t
+  unfolding widthAfter
+  after-carried n = flagless-carried (widthAfter n) (λ P sign sign' c s. refl) (λ M p v v' invnorm. refl)
+
+  mixed-carried : (n : ℕ) (Q : Pauli) (t : Step R) → mixedAmplitudes n (carriedStep Q t) ≡ mixedAmplitudes n t
+  unfolding mixedAmplitudes
+  mixed-carried n = flagless-carried (mixedAmplitudes n) (λ P sign sign' c s. refl) (λ M p v v' invnorm. refl)
 
   surveyed-carried : (v : Survey) (Q : Pauli) (t : Step R) → surveyed v (carriedStep Q t) ≡ surveyed v t
   unfolding surveyed

@@ -6,8 +6,8 @@ use lib.Dec.{eqb}
 use Rattle.bitlaws.specs.Digit.{digit}
 use Rattle.paulilaws.specs.Pauli.{Pauli, product, anti}
 use Rattle.paulilaws.specs.Frame.{raised, dropped}
-use Rattle.framelaws.specs.Step.{Step}
-use Rattle.framelaws.specs.Step.Step.{rotation, promotion, projection, correction}
+use Rattle.amplitudelaws.specs.Step.{Step}
+use Rattle.amplitudelaws.specs.Step.Step.{rotation, promotion, projection, correction}
 
 -- a sign or a branch, flipped where Q and P anticommute
 unfoldable pub flipped : Pauli → Pauli → ℕ → ℕ

@@ -5,7 +5,7 @@ use native.Mathlib.Omega.{arith}
 use borrow.Author.Tests.{eq-eqb}
 use lib.Bits.{bitXor, xor-zero-r}
 use Rattle.bitlaws.specs.Digit.{digit}
-use Rattle.bitlaws.specs.Xor.{digit-xor}
+use Rattle.bitlaws.specs.Bitwise.{digit-xor}
 use Rattle.bitlaws.specs.Opening.{dropBit}
 use Rattle.bitlaws.specs.Parity.{overlap, overlap-xor-r, overlap-zero-l, overlap-zero-r}
 use Rattle.bitlaws.specs.Source.{source, source-parity, source-lt}

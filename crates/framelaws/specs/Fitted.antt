@@ -2,18 +2,16 @@
 use mathlib.Core.Path.{_≡_, refl, sym, ap, _∙_, subst}
 use mathlib.Core.Bool.{Bool, true, false}
 use mathlib.Core.List.{List, [], _∷_}
-use Prim.Native.Nat.{ℕ, suc, _+_, _-_, _%_, _^_, _≤_, _<_}
-use native.Mathlib.Nat.{mod-lt, zero-lt-suc}
+use Prim.Native.Nat.{ℕ, suc, _+_, _-_, _^_, _≤_, _<_}
 use native.Mathlib.Omega.{arith}
 use lib.Ieee.{Float}
 use lib.Pow.{pow-lt}
 use Rattle.bitlaws.specs.Opening.{drop-lt}
-use Rattle.bitlaws.specs.Xor.{xor-lt}
 use Rattle.paulilaws.specs.Pauli.{Pauli, product, mostQubits}
-use Rattle.paulilaws.specs.Fitting.{Fitting}
+use Rattle.paulilaws.specs.Fitting.{Fitting, phase-small, product-fitting}
 use Rattle.paulilaws.specs.Frame.{raised, dropped}
-use Rattle.framelaws.specs.Step.{Step, widthAfter, lastWidth}
-use Rattle.framelaws.specs.Step.Step.{rotation, promotion, projection, correction}
+use Rattle.amplitudelaws.specs.Step.{Step, widthAfter, lastWidth}
+use Rattle.amplitudelaws.specs.Step.Step.{rotation, promotion, projection, correction}
 use Rattle.framelaws.specs.Rows.{stepRow}
 use Rattle.framelaws.specs.Carrying.{absorbed, widened, passed, endPauli}
 use Rattle.framelaws.specs.Allowed.{Placed, Allowed}
@@ -21,21 +19,9 @@ use Rattle.framelaws.specs.Passing.{promotion-below, projection-measurab
 
 -- ---- what carrying does to a Pauli
 
-phase-small : (k : ℕ) → k % 4 ≤ 3
-phase-small k = let small = mod-lt k (zero-lt-suc 3) in omega (arith, small)
-
 raised-fitting : (e : ℕ) {P : Pauli} → Fitting P → Fitting (raised e P)
 unfolding raised
 raised-fitting e {P} f = record { phase = phase-small (P .k + e); width = f .width; xs = f .xs; zs = f .zs }
-
-pub product-fitting : {A B : Pauli} → B .n ≡ A .n → Fitting A → Fitting B → Fitting (product A B)
-unfolding product
-product-fitting {A} {B} e f g = record {
-  phase = phase-small _;
-  width = f .width;
-  xs = xor-lt (A .n) (A .x) (B .x) (f .xs) (rw e at (g .xs));
-  zs = xor-lt (A .n) (A .z) (B .z) (f .zs) (rw e at (g .zs));
-}
 
 widened-fitting : {P : Pauli} → P .n < mostQubits → Fitting P → Fitting (widened P)
 unfolding widened

@@ -1,4 +1,4 @@
--- A projection's coefficient is 1 / sqrt 2, turned; so its two amplitudes are added alike, and neither comes first. Assumes nothing.
+-- A projection's coefficient is 1 / sqrt 2, turned; so its two amplitudes are scaled alike, and their sum is the same in either order. Assumes nothing.
 use mathlib.Core.Path.{_≡_, refl, sym, ap, ap₂, _∙_}
 use mathlib.Core.Logic.{_⊎_, inl, inr, ⊎-elim}
 use mathlib.Core.Bool.{false}

@@ -4,21 +4,21 @@ use mathlib.Core.Bool.{Bool, true, false}
 use mathlib.Core.List.{List, [], _∷_}
 use Prim.Native.Nat.{ℕ, _^_, _≤_, _<_}
 use native.Mathlib.Nat.{le-trans, lt-of-lt-of-le}
-use lib.Dec.{leb, eqb}
+use lib.Dec.{eqb}
 use lib.Ieee.{Float, nan}
 use lib.ListN.{length}
 use lib.Pow.{pow-mono}
-use borrow.Author.Tests.{leb-true, le-leb}
+use borrow.Author.Tests.{le-leb}
 use Rattle.paulilaws.specs.Pauli.{Pauli}
-use Rattle.paulilaws.specs.Fitting.{both-left, both-right}
 use Rattle.statelaws.specs.Over.{length-over, over-at}
 use Rattle.amplitudelaws.specs.Binary.{Point}
-use Rattle.amplitudelaws.specs.State.{State, point, written, room}
+use Rattle.amplitudelaws.specs.State.{State, point, written, roomFor, room}
+use Rattle.amplitudelaws.specs.Passed.{room-lengths}
 use Rattle.amplitudelaws.specs.Steps as leaves
 use Rattle.amplitudelaws.specs.Sweeping.{point-same}
 use Rattle.framelaws.specs.Memory.{Memory, stepped, ran}
-use Rattle.framelaws.specs.Step.{Step, widthAfter}
-use Rattle.framelaws.specs.Step.Step.{rotation, promotion, projection, correction}
+use Rattle.amplitudelaws.specs.Step.{Step, widthAfter}
+use Rattle.amplitudelaws.specs.Step.Step.{rotation, promotion, projection, correction}
 
 -- ---- lengths
 
@@ -67,29 +67,34 @@ ran-sizes n (t ∷ ts) m =
 
 -- ---- room
 
+-- for as many amplitudes in lists as long, and for fewer
+pub roomFor-kept : (k : ℕ) {S T : State} → SameLengths S T → roomFor k T ≡ true → roomFor k S ≡ true
+unfolding roomFor
+roomFor-kept k h r = rw (h .res, h .ims) r
+
+pub roomFor-under : (j k : ℕ) (S : State) → j ≤ k → roomFor k S ≡ true → roomFor j S ≡ true
+unfolding roomFor
+roomFor-under j k S h r =
+    let lengths = room-lengths k S r in
+    rw (le-leb j (length (S .re)) (le-trans h (lengths .0)), le-leb j (length (S .im)) (le-trans h (lengths .1)))
+
+-- and so for qubits
 pub room-kept : (g : ℕ) {S T : State} → SameLengths S T → room g T ≡ true → room g S ≡ true
 unfolding room
-room-kept g h r = rw (h .res, h .ims) r
-
-enough : (n : ℕ) (S : State) → room n S ≡ true → (2 ^ n ≤ length (S .re)) × (2 ^ n ≤ length (S .im))
-unfolding room
-enough n S r =
-    let re = leb (2 ^ n) (length (S .re)) in
-    let im = leb (2 ^ n) (length (S .im)) in
-    (leb-true (2 ^ n) (length (S .re)) (both-left re im r), leb-true (2 ^ n) (length (S .im)) (both-right re im r))
+room-kept g h r = roomFor-kept (2 ^ g) h r
 
 pub room-under : (n g : ℕ) (S : State) → n ≤ g → room g S ≡ true → room n S ≡ true
 unfolding room
-room-under n g S h r =
-    let lengths = enough g S r in
-    rw (le-leb (2 ^ n) (length (S .re)) (le-trans (pow-mono h) (lengths .0)), le-leb (2 ^ n) (length (S .im)) (le-trans (pow-mono h) (lengths .1)))
+room-under n g S h r = roomFor-under (2 ^ n) (2 ^ g) S (pow-mono h) r
 
 -- ---- what was written is read
 
-pub point-written : (n : ℕ) (F : ℕ → Point) (S : State) → room n S ≡ true → (b : ℕ) → b < 2 ^ n → point (written n F S) b ≡ F b
-unfolding point written
-point-written n F S r b h =
-    let lengths = enough n S r in
-    point-same
+-- k is the width that was written, n the one that is read
+pub point-written : (k n : ℕ) (F : ℕ → Point) (S : State) → k ≡ n → room n S ≡ true → (b : ℕ) → b < 2 ^ n → point (written k F S) b ≡ F b
+unfolding point written room
+point-written k n F S e r b h =
+    let lengths = room-lengths (2 ^ n) S r in
+    rw e
+    (point-same
     (over-at (2 ^ n) (λ c. F c .re) (S .re) b nan h (lt-of-lt-of-le h (lengths .0)))
-    (over-at (2 ^ n) (λ c. F c .im) (S .im) b nan h (lt-of-lt-of-le h (lengths .1)))
+    (over-at (2 ^ n) (λ c. F c .im) (S .im) b nan h (lt-of-lt-of-le h (lengths .1))))

@@ -1,4 +1,3 @@
-pub mod Step
 pub mod Rows
 pub mod Carrying
 pub mod Survey
@@ -21,3 +20,4 @@ pub mod Carried
 pub mod Passing
 pub mod Fitted
 pub mod List
+pub mod Acted

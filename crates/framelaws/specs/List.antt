@@ -14,8 +14,8 @@ use Rattle.amplitudelaws.specs.Binary.{Point, binary}
 use Rattle.amplitudelaws.specs.Correction.{corrected}
 use Rattle.amplitudelaws.specs.State.{State, point, written, room}
 use Rattle.amplitudelaws.specs.Steps as leaves
-use Rattle.framelaws.specs.Step.{Step, widthAfter, lastWidth}
-use Rattle.framelaws.specs.Step.Step.{rotation, promotion, projection, correction}
+use Rattle.amplitudelaws.specs.Step.{Step, widthAfter, lastWidth}
+use Rattle.amplitudelaws.specs.Step.Step.{rotation, promotion, projection, correction}
 use Rattle.framelaws.specs.Rows.{stepRow}
 use Rattle.framelaws.specs.Carrying.{carriedStep, passed, carriedSteps, endPauli}
 use Rattle.framelaws.specs.Survey.{survey}
@@ -39,7 +39,7 @@ framed-only n Q hx f g w = record { at = λ b hb. rw (f (bitXor b (Q .x)) (xor-l
 module _ (n : ℕ) (Q : Pauli) (F G : ℕ → Point) (S U : State) (hx : Q .x < 2 ^ n) (rs : room n S ≡ true) (ru : room n U ≡ true) where
   -- the frame of two functions is that of the states that they are written in
   framed-written : (k : ℕ) → k ≡ n → Framed n Q F G → Framed n Q (point (written k F S)) (point (written k G U))
-  framed-written k e w = rw e (framed-only n Q hx (point-written n F S rs) (point-written n G U ru) w)
+  framed-written k e w = framed-only n Q hx (point-written k n F S e rs) (point-written k n G U e ru) w
 
 -- ---- one step
 
@@ -69,7 +69,7 @@ module _ (limit n : ℕ) (Q : Pauli) (m u : Memory) (width : Q .n ≡ n) (fits :
 
 -- ---- all of them
 
-pub framed-ran : (limit g : ℕ) (ts : List (Step Float)) (n : ℕ) (Q : Pauli) (m u : Memory) → limit ≤ mostQubits → n ≤ limit → Allowed limit n ts
+framed-ran : (limit g : ℕ) (ts : List (Step Float)) (n : ℕ) (Q : Pauli) (m u : Memory) → limit ≤ mostQubits → n ≤ limit → Allowed limit n ts
     → Fitting Q → Q .n ≡ n → room g (m .state) ≡ true → room g (u .state) ≡ true → survey n ts .greatest ≤ g → FiniteSteps n (carriedSteps Q ts) u
     → Framed n Q (point (m .state)) (point (u .state))
     → Framed (lastWidth n ts) (endPauli Q ts) (point (ran n ts m .state)) (point (ran n (carriedSteps Q ts) u .state))
@@ -96,8 +96,7 @@ framed-ran limit g (t ∷ ts) n Q m u most within a f width rm ru wide finite w 
 point-correction : (n : ℕ) (P : Pauli) (S : State) → P .n ≡ n → room n S ≡ true → (b : ℕ) → b < 2 ^ n
     → point (leaves.correction P S) b ≡ corrected binary P (point S) b
 unfolding leaves.correction
-point-correction n P S e r b hb =
-    point-written (P .n) (corrected binary P (point S)) S (subst (λ (k : ℕ). room k S ≡ true) (sym e) r) b (subst (λ (k : ℕ). b < 2 ^ k) (sym e) hb)
+point-correction n P S e r b hb = point-written (P .n) n (corrected binary P (point S)) S e r b hb
 
 module _ (limit g : ℕ) (ts : List (Step Float)) (n : ℕ) (Q : Pauli) (m u : Memory) (most : limit ≤ mostQubits) (within : n ≤ limit)
     (allowed : Allowed limit n ts) (fits : Fitting Q) (width : Q .n ≡ n) (rm : room g (m .state) ≡ true) (ru : room g (u .state) ≡ true)

@@ -4,8 +4,8 @@ use Prim.Native.Nat.{ℕ}
 use lib.Ieee.{Float}
 use Rattle.amplitudelaws.specs.State.{State, stateOf}
 use Rattle.amplitudelaws.specs.Steps as leaves
-use Rattle.framelaws.specs.Step.{Step, widthAfter}
-use Rattle.framelaws.specs.Step.Step.{rotation, promotion, projection, correction}
+use Rattle.amplitudelaws.specs.Step.{Step, widthAfter}
+use Rattle.amplitudelaws.specs.Step.Step.{rotation, promotion, projection, correction}
 
 -- the state, and the scratch that a projection with an X part makes its result in
 pub record Memory : Type 0 where

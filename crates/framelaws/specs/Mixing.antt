@@ -6,7 +6,8 @@ use native.Mathlib.Omega.{arith}
 use lib.Bits.{bitXor}
 use lib.Dec.{eqb}
 use Rattle.bitlaws.specs.Digit.{digit}
-use Rattle.bitlaws.specs.Xor.{digit-xor, xor-assoc, xor-lt, xor-twice}
+use Rattle.bitlaws.specs.Bitwise.{digit-xor}
+use Rattle.bitlaws.specs.Xor.{xor-assoc, xor-lt, xor-twice}
 use Rattle.bitlaws.specs.Opening.{openBit, dropBit, open-lt}
 use Rattle.bitlaws.specs.Parity.{overlap, overlap-comm, overlap-xor-l, overlap-xor-r}
 use Rattle.bitlaws.specs.Pivot.{overlap-open}

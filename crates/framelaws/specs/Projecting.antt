@@ -4,12 +4,10 @@ use mathlib.Core.Path.{_≡_, refl}
 use mathlib.Core.Bool.{Bool, true, false, cond}
 use mathlib.Core.Logic.{⊎-elim}
 use Prim.Native.Nat.{ℕ, suc, _+_, _*_, _%_, _^_, _≤_, _<_}
-use native.Mathlib.Omega.{arith}
 use lib.Dec.{eqb}
 use borrow.Author.Tests.{eqb-true, eqb-false}
 use lib.Ieee.{Float}
-use Rattle.bitlaws.specs.Digit.{digit, digit-lt}
-use Rattle.bitlaws.specs.Order.{last-or-before}
+use Rattle.bitlaws.specs.Digit.{digit, set-or-clear}
 use Rattle.bitlaws.specs.Parity.{overlap}
 use Rattle.paulilaws.specs.Pauli.{Pauli, hermitian}
 use Rattle.paulilaws.specs.Algebra.{hermitian-parity}
@@ -32,8 +30,7 @@ framed-scaled {Q = Q} c {G = G} w = record { at = λ b h. steady (scaled-steady 
 
 -- a digit that is not 1
 clear : (p a : ℕ) → eqb (digit p a) 1 ≡ false → digit p a ≡ 0
-clear p a e =
-    ⊎-elim (λ (set : digit p a ≡ 1). absurd (eqb-false (digit p a) 1 e set)) (λ (less : digit p a < 1). omega arith) (last-or-before (digit-lt p a))
+clear p a e = ⊎-elim (λ (set : digit p a ≡ 1). absurd (eqb-false (digit p a) 1 e set)) (λ (none : digit p a ≡ 0). none) (set-or-clear p a)
 
 module _ (m p : ℕ) (Q M : Pauli) (v : ℕ) {F G : ℕ → Point} (fits : p ≤ m) (fitting : Fitting M) (width : M .n ≡ suc m) (even : M .k % 2 ≡ overlap (M .x) (M .z))
     (framed : Framed (suc m) Q F G) (finite : (b : ℕ) → b < 2 ^ suc m → Finite (G b)) where

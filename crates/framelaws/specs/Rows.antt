@@ -6,9 +6,9 @@ use lib.Ieee.{Float}
 use lib.Ieee.Scale.{finite}
 use Rattle.answers.specs.Row.{row, first}
 use Rattle.paulilaws.specs.Pauli.{Pauli}
-use Rattle.amplitudelaws.specs.Rows.{widthRow, unitRow, rotationKernelRow, measurementRow, widestKernel}
-use Rattle.framelaws.specs.Step.{Step}
-use Rattle.framelaws.specs.Step.Step.{rotation, promotion, projection, correction}
+use Rattle.amplitudelaws.specs.Rows.{widthRow, unitRow, rotationKernelRow, measurementRow, promotedWidthRow, widestKernel}
+use Rattle.amplitudelaws.specs.Step.{Step}
+use Rattle.amplitudelaws.specs.Step.Step.{rotation, promotion, projection, correction}
 
 -- the kernel's own rows, then 14 for a sign or a branch over 1
 unfoldable pub rotationStepRow : Pauli → ℕ → Float → Float → ℕ
@@ -17,9 +17,9 @@ rotationStepRow P sign c s = first (rotationKernelRow P c s) (row (ltb 1 sign) 1
 unfoldable pub projectionStepRow : Pauli → ℕ → ℕ → Float → ℕ
 projectionStepRow M p v invnorm = first (measurementRow M p (not (finite invnorm))) (row (ltb 1 v) 14 0)
 
--- 8, then 15 at the limit
+-- the kernel's own rows, 13 apart, then 15 at the limit
 unfoldable pub promotionStepRow : ℕ → ℕ → Float → Float → ℕ
-promotionStepRow limit n c q = first (unitRow c q) (row (leb limit n) 15 0)
+promotionStepRow limit n c q = first (promotedWidthRow n) (first (unitRow c q) (row (leb limit n) 15 0))
 
 -- a step at width n, under a limit on the width
 unfoldable pub stepRow : ℕ → ℕ → Step Float → ℕ

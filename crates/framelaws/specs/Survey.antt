@@ -3,8 +3,8 @@ use mathlib.Core.Bool.{cond}
 use mathlib.Core.List.{List, [], _∷_}
 use Prim.Native.Nat.{ℕ, _+_, _-_, _^_, max}
 use lib.Dec.{eqb}
-use Rattle.framelaws.specs.Step.{Step, widthAfter}
-use Rattle.framelaws.specs.Step.Step.{rotation, promotion, projection, correction}
+use Rattle.amplitudelaws.specs.Step.{Step, widthAfter}
+use Rattle.amplitudelaws.specs.Step.Step.{rotation, promotion, projection, correction}
 
 -- `scratch` is the number of amplitudes of the largest state that a projection with an X part has left, 0 where there was none
 pub record Survey : Type 0 where

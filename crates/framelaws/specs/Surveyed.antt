@@ -1,12 +1,13 @@
--- What the survey of a list of steps says: the last width, the number of steps, and a width that no width on the way exceeds. Assumes nothing.
-use mathlib.Core.Path.{_≡_, refl, _∙_}
+-- What the survey of a list of steps says: the last width, the number of steps, and two numbers that nothing on the way exceeds, the greatest width and
+-- the most amplitudes that a projection makes in the scratch. Assumes nothing.
+use mathlib.Core.Path.{_≡_, refl, ap, _∙_}
 use mathlib.Core.List.{List, [], _∷_}
 use Prim.Native.Nat.{ℕ, _+_, _≤_, max}
 use native.Mathlib.Nat.{le-refl, le-trans, le-max-left, le-max-right, zero-add}
 use native.Mathlib.Omega.{arith}
 use lib.ListN.{length}
-use Rattle.framelaws.specs.Step.{Step, widthAfter, lastWidth}
-use Rattle.framelaws.specs.Survey.{Survey, surveyed, surveyFrom, outset, survey}
+use Rattle.amplitudelaws.specs.Step.{Step, widthAfter, lastWidth}
+use Rattle.framelaws.specs.Survey.{Survey, mixedAmplitudes, surveyed, surveyFrom, outset, survey}
 
 module _ {R : Type 0} where
   from-width : (v : Survey) (ts : List (Step R)) → surveyFrom v ts .width ≡ lastWidth (v .width) ts
@@ -19,19 +20,21 @@ module _ {R : Type 0} where
   from-steps v [] = omega arith
   from-steps v (t ∷ ts) = omega (arith, from-steps (surveyed v t) ts)
 
-  from-greatest : (v : Survey) (ts : List (Step R)) → v .greatest ≤ surveyFrom v ts .greatest
-  unfolding surveyFrom surveyed
-  from-greatest v [] = le-refl (v .greatest)
-  from-greatest v (t ∷ ts) = le-trans (le-max-left (v .greatest) (widthAfter (v .width) t)) (from-greatest (surveyed v t) ts)
+  -- what a survey holds the greatest of: `given` is the number that a step gives at its width
+  module _ (held : Survey → ℕ) (given : ℕ → Step R → ℕ) (next : (v : Survey) (t : Step R) → held (surveyed v t) ≡ max (held v) (given (v .width) t)) where
+    from-ge : (v : Survey) (ts : List (Step R)) → held v ≤ held (surveyFrom v ts)
+    unfolding surveyFrom
+    from-ge v [] = le-refl (held v)
+    from-ge v (t ∷ ts) = le-trans (rw (next v t) (le-max-left (held v) (given (v .width) t))) (from-ge (surveyed v t) ts)
 
-  -- of two surveys at one width, the one whose greatest width is less or equal stays so
-  from-below : (v w : Survey) (ts : List (Step R)) → v .width ≡ w .width → v .greatest ≤ w .greatest → surveyFrom v ts .greatest ≤ surveyFrom w ts .greatest
-  unfolding surveyFrom surveyed
-  from-below v w [] e h = h
-  from-below v w (t ∷ ts) e h = from-below (surveyed v t) (surveyed w t) ts (rw e) (rw e (wider (widthAfter (w .width) t)))
-    where
-      wider : (k : ℕ) → max (v .greatest) k ≤ max (w .greatest) k
-      wider k = omega arith
+    -- of two surveys at one width, the one that holds no more goes on to hold no more
+    from-le : (v w : Survey) (ts : List (Step R)) → v .width ≡ w .width → held v ≤ held w → held (surveyFrom v ts) ≤ held (surveyFrom w ts)
+    unfolding surveyFrom
+    from-le v w [] e h = h
+    from-le v w (t ∷ ts) e h = from-le (surveyed v t) (surveyed w t) ts (unfold surveyed in rw e) (rw (next v t, next w t) (larger _ _ (ap (λ (n : ℕ). given n t) e)))
+      where
+        larger : (j k : ℕ) → j ≡ k → max (held v) j ≤ max (held w) k
+        larger j k e = omega arith
 
   module _ (n : ℕ) (ts : List (Step R)) where
     pub survey-width : survey n ts .width ≡ lastWidth n ts
@@ -43,13 +46,23 @@ module _ {R : Type 0} where
     survey-steps = from-steps (outset n) ts ∙ zero-add (length ts)
 
     pub survey-greatest : n ≤ survey n ts .greatest
-    unfolding survey
-    survey-greatest = from-greatest (outset n) ts
+    unfolding survey surveyed
+    survey-greatest = from-ge (λ v. v .greatest) widthAfter (λ v t. refl) (outset n) ts
 
-  -- behind a step
-  pub survey-greatest-rest : (n : ℕ) (t : Step R) (ts : List (Step R)) → survey (widthAfter n t) ts .greatest ≤ survey n (t ∷ ts) .greatest
-  unfolding survey surveyFrom surveyed
-  survey-greatest-rest n t ts = from-below (outset (widthAfter n t)) (surveyed (outset n) t) ts refl (le-max-right n (widthAfter n t))
+  -- a step before the others
+  module _ (n : ℕ) (t : Step R) (ts : List (Step R)) where
+    pub survey-greatest-rest : survey (widthAfter n t) ts .greatest ≤ survey n (t ∷ ts) .greatest
+    unfolding survey surveyFrom surveyed
+    survey-greatest-rest = from-le (λ v. v .greatest) widthAfter (λ v t. refl) (outset (widthAfter n t)) (surveyed (outset n) t) ts refl (le-max-right n (widthAfter n t))
+
+    pub survey-scratch-rest : survey (widthAfter n t) ts .scratch ≤ survey n (t ∷ ts) .scratch
+    unfolding survey surveyFrom surveyed
+    survey-scratch-rest =
+        from-le (λ v. v .scratch) mixedAmplitudes (λ v t. refl) (outset (widthAfter n t)) (surveyed (outset n) t) ts refl (le-max-left 0 (mixedAmplitudes n t))
+
+    pub survey-scratch : mixedAmplitudes n t ≤ survey n (t ∷ ts) .scratch
+    unfolding survey surveyFrom surveyed
+    survey-scratch = le-trans (le-max-right 0 (mixedAmplitudes n t)) (from-ge (λ v. v .scratch) mixedAmplitudes (λ v t. refl) (surveyed (outset n) t) ts)
 
   pub survey-greatest-last : (n : ℕ) (ts : List (Step R)) → lastWidth n ts ≤ survey n ts .greatest
   unfolding lastWidth

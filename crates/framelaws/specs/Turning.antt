@@ -5,7 +5,7 @@ use Prim.Native.Nat.{ℕ, zero, suc, _+_, _*_, _%_, _<_}
 use native.Mathlib.Omega.{arith}
 use lib.Dec.{eqb}
 use lib.Ieee.{Float, binary64, neg, add, sub}
-use Rattle.bitlaws.specs.Digit.{mod-two}
+use Rattle.bitlaws.specs.Digit.{by-digit, mod-two}
 use Rattle.floatlaws.specs.Same.{Same, same, same-eq, _⨾_}
 use Rattle.floatlaws.specs.Sign.{neg-neg, mul-neg-left, mul-neg-right}
 use Rattle.floatlaws.specs.Sum.{add-neg, same-add, same-sub}
@@ -41,7 +41,7 @@ pub record Pairing (φ : ℕ → Point → Point → Point) : Type 0 where
   pub same-sign : (a b : ℕ) (p q : Point) → a % 2 ≡ b % 2 → φ a p q ≡ φ b p q
 
 module _ {φ : ℕ → Point → Point → Point} (w : Pairing φ) where
-  pub spins : (k a : ℕ) (p q : Point) → Alike (φ a (turns k p) (turns k q)) (turns k (φ a p q))
+  spins : (k a : ℕ) (p q : Point) → Alike (φ a (turns k p) (turns k q)) (turns k (φ a p q))
   spins zero a p q = alike
   spins (suc k) a p q = alike-trans (w .spin a (turns k p) (turns k q)) (alike-turn (spins k a p q))
 
@@ -67,9 +67,7 @@ odd-suc : (a : ℕ) → eqb (suc a % 2) 1 ≡ not (eqb (a % 2) 1)
 odd-suc a = other (a % 2) (suc a % 2) (mod-two a) (omega arith)
   where
     other : (r s : ℕ) → r < 2 → s ≡ (r + 1) % 2 → eqb s 1 ≡ not (eqb r 1)
-    other zero s h e = rw e
-    other (suc zero) s h e = rw e
-    other (suc (suc r)) s h e = absurd (omega arith)
+    other r s h e = rw e (by-digit (λ r. eqb ((r + 1) % 2) 1 ≡ not (eqb r 1)) refl refl r h)
 
 cond-not : (t : Bool) (x : Float) → cond (not t) (neg x) x ≡ neg (cond t (neg x) x)
 cond-not true x = sym (neg-neg x)

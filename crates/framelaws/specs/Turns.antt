@@ -5,7 +5,7 @@ use native.Mathlib.Nat.{div-add-mod', mod-lt, zero-add, zero-lt-suc}
 use native.Mathlib.Omega.{arith}
 use lib.Ieee.{neg}
 use Rattle.floatlaws.specs.Sign.{neg-neg, same-neg}
-use Rattle.floatlaws.specs.Finite.{neg-finite-out}
+use Rattle.floatlaws.specs.Finite.{finite-neg}
 use Rattle.amplitudelaws.specs.Arithmetic.{quarters}
 use Rattle.amplitudelaws.specs.Binary.{Point, binary}
 use Rattle.amplitudelaws.specs.Sweeping.{point-same}
@@ -65,4 +65,4 @@ alike-turns (suc k) h = alike-turn (alike-turns k h)
 
 pub finite-turns : (k : ℕ) (p : Point) → Finite p → Finite (turns k p)
 finite-turns zero p h = h
-finite-turns (suc k) p h = let f = finite-turns k p h in (neg-finite-out (turns k p .im) (f .1), f .0)
+finite-turns (suc k) p h = let f = finite-turns k p h in (rw (finite-neg (turns k p .im)) (f .1), f .0)

@@ -22,62 +22,38 @@ pub struct Part {
 
 // A letter for each call, 0 for a name that none has.
 pub(crate) fn call(name: &[u8]) -> u8 {
-    if check::same(name, b"is_pauli") {
-        return b'v';
-    }
-    if check::same(name, b"is_hermitian") {
-        return b'h';
-    }
-    if check::same(name, b"mul") {
-        return b'm';
-    }
-    if check::same(name, b"anticommutes") {
-        return b'a';
-    }
-    if check::same(name, b"raised") {
-        return b'e';
-    }
-    if check::same(name, b"dropped") {
-        return b'd';
-    }
-    if check::same(name, b"x_bit") {
-        return b'x';
-    }
-    if check::same(name, b"z_bit") {
-        return b'z';
-    }
-    kernel_call(name)
+    pauli_call(name) | kernel_call(name) | state_call(name)
+}
+
+fn pauli_call(name: &[u8]) -> u8 {
+    named(name, b"is_pauli", b'v')
+        | named(name, b"is_hermitian", b'h')
+        | named(name, b"mul", b'm')
+        | named(name, b"anticommutes", b'a')
+        | named(name, b"raised", b'e')
+        | named(name, b"dropped", b'd')
+        | named(name, b"x_bit", b'x')
+        | named(name, b"z_bit", b'z')
 }
 
 fn kernel_call(name: &[u8]) -> u8 {
-    if check::same(name, b"action") {
-        return b'A';
-    }
-    if check::same(name, b"rotation_kernel") {
-        return b'R';
-    }
-    if check::same(name, b"with_pivot") {
-        return b'M';
-    }
-    if check::same(name, b"from_pauli") {
-        return b'F';
-    }
-    if check::same(name, b"rotate") {
-        return b'r';
-    }
-    if check::same(name, b"promote") {
-        return b'p';
-    }
-    if check::same(name, b"project") {
-        return b'j';
-    }
-    if check::same(name, b"probability") {
-        return b'b';
-    }
-    if check::same(name, b"correct") {
-        return b'c';
-    }
-    0
+    named(name, b"action", b'A')
+        | named(name, b"rotation_kernel", b'R')
+        | named(name, b"with_pivot", b'M')
+        | named(name, b"from_pauli", b'F')
+}
+
+fn state_call(name: &[u8]) -> u8 {
+    named(name, b"rotate", b'r')
+        | named(name, b"promote", b'p')
+        | named(name, b"project", b'j')
+        | named(name, b"probability", b'b')
+        | named(name, b"correct", b'c')
+}
+
+// The letter, if the name is this one. At most one is, so the letters are put together by `|`.
+fn named(name: &[u8], this: &[u8], letter: u8) -> u8 {
+    if check::same(name, this) { letter } else { 0 }
 }
 
 // How many words a call takes; 98 where there is no such call, or a sign or branch is over 1.

@@ -27,13 +27,9 @@ fn mask(word: u64) {
     io::print_hex(STDOUT_FILENO, word, 1);
 }
 
-// Any NaN is written as the same.
+// As in a listing: any NaN is written as the same.
 pub fn float(x: f64) {
-    if x != x {
-        io::write_all(STDOUT_FILENO, b"7ff8000000000000");
-        return;
-    }
-    io::print_hex(STDOUT_FILENO, f64::to_bits(x), 16);
+    io::print_hex(STDOUT_FILENO, listing::bits(x), 16);
 }
 
 pub fn floats(buffer: &[f64]) {

@@ -7,8 +7,8 @@ use native.Mathlib.Omega.{arith}
 use lib.ListN.{getD}
 use lib.Pow.{pow-mono}
 use Rattle.bitlaws.specs.Words.{words-at}
-use Rattle.bits.specs.Mask.{mask}
-use Rattle.bits.specs.MaskLaws.{Small}
+use Rattle.masks.specs.Mask.{mask}
+use Rattle.masks.specs.MaskLaws.{Small}
 
 pub one-word : (w : List ℕ) (n : ℕ) → Small w → n ≤ 64 → mask w < 2 ^ n → getD w 0 0 ≡ mask w
 unfolding mask

@@ -104,6 +104,7 @@ impl ActivePauliAction {
 }
 
 fn action(pauli: ActivePauli) -> ActivePauliAction
+    requires { ⌜ pauli .phase ≤ 3 ⌝ }
     ensures { λ r. ⌜ actionMeant r ≡ actionOf (activeOf pauli) ⌝ }
 {
     let even_phase = complex::phase_factor(pauli.phase);
@@ -131,6 +132,7 @@ impl PrecomputedActivePauliRotationKernel {
 }
 
 fn rotation_kernel(pauli: ActivePauli, c: f64, s: f64) -> PrecomputedActivePauliRotationKernel
+    requires { ⌜ pauli .phase ≤ 3 ⌝ }
     ensures { λ r. ⌜ rotationMeant r ≡ rotationOf (activeOf pauli) c s ⌝ }
 {
     let action = action(pauli);
@@ -170,7 +172,7 @@ impl PrecomputedActivePauliMeasurementKernel {
 }
 
 fn measurement_kernel(pauli: ActivePauli, pivot: usize) -> PrecomputedActivePauliMeasurementKernel
-    requires { ⌜ (0 < pauli .nqubits) × (pauli .nqubits ≤ 64) ⌝ }
+    requires { ⌜ (pauli .phase ≤ 3) × (0 < pauli .nqubits) × (pauli .nqubits ≤ 64) ⌝ }
     ensures { λ r. ⌜ measurementMeant r ≡ measurementOf (activeOf pauli) pivot ⌝ }
 {
     let action = action(pauli);

@@ -33,7 +33,7 @@ impl Ledger {
     }
 
     // One call more, finished or refused.
-    pub fn counted(self, finished: bool) -> Ledger
+    fn counted(self, finished: bool) -> Ledger
         ensures { λ r. ⌜ ledgerOf r ≡ history.counted finished (ledgerOf self) ⌝ }
     {
         Ledger {

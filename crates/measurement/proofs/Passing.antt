@@ -3,11 +3,10 @@ use mathlib.Core.Path.{_≡_, refl, sym, ap, _∙_, subst}
 use mathlib.Core.Bool.{Bool, true, false, cond, not, _&&_, _||_}
 use Prim.Native.Nat.{ℕ, _-_, _^_}
 use native.Mathlib.Omega.{arith}
-use lib.Dec.{leb, eqb, lit<}
+use lib.Dec.{eqb, lit<}
 use lib.Ieee.{Float}
 use lib.Ieee.Scale.{finite}
-use lib.ListN.{length}
-use borrow.Author.Tests.{leb-true, not-false}
+use borrow.Author.Tests.{not-false}
 use Rattle.answers.specs.Answer.Answer.{refused}
 use Rattle.answers.specs.Row.{row, row-passed, first-some, first-none, first-passed, answered, answered-some, refused-row}
 use Rattle.paulilaws.specs.Pauli.{Pauli}
@@ -15,7 +14,7 @@ use Rattle.paulilaws.specs.Fitting.{both-left, both-right}
 use Rattle.bitlaws.specs.Digit.{bitOf}
 use Rattle.amplitudelaws.specs.Arithmetic.{scaled}
 use Rattle.amplitudelaws.specs.Binary.{binary, Point, clamped}
-use Rattle.amplitudelaws.specs.Passed.{measurement-passed}
+use Rattle.amplitudelaws.specs.Passed.{measurement-passed, room-lengths}
 use Rattle.amplitudelaws.specs.Probability.{mass, squared, total}
 use Rattle.amplitudelaws.specs.Projection.{minus, projected, projectionCoefficient, remaining, remainingBy}
 use Rattle.amplitudelaws.specs.Rows.{pivotMask, measurementRow, roomRow, projectionRow, probabilityRow}
@@ -30,10 +29,7 @@ either-other false u e f = e
 
 pub room-holding : (n : ℕ) (S : State) → room n S ≡ true → Holding n S
 unfolding room
-room-holding n S e =
-    let re = leb (2 ^ n) (length (S .re)) in
-    let im = leb (2 ^ n) (length (S .im)) in
-    record { re = leb-true (2 ^ n) (length (S .re)) (both-left re im e); im = leb-true (2 ^ n) (length (S .im)) (both-right re im e) }
+room-holding n S e = let lengths = room-lengths (2 ^ n) S e in record { re = lengths .0; im = lengths .1 }
 
 module _ (M : Pauli) (p : ℕ) where
   -- the kernel of a Pauli that no row refuses

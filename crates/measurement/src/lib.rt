@@ -44,7 +44,7 @@ pub fn probability_contiguous(
             if !rows::has_room(re, im, pauli.nqubits) {
                 return ProbabilityAnswer::Refused(13);
             }
-            ProbabilityAnswer::Probability(norm::clamped(norm::mass(re, im, kernel, branch)))
+            ProbabilityAnswer::Probability(formulas::clamped(norm::mass(re, im, kernel, branch)))
         }
     }
 }

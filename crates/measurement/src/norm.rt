@@ -1,12 +1,10 @@
-// The squared length of what a branch leaves, and its clamp.
+// The squared length of what a branch leaves.
 use crate::amplitude;
 use complex::Complex64;
 use kernels::PrecomputedActivePauliMeasurementKernel;
 ghost use mathlib.Core.Path.{_≡_};
 ghost use Prim.Native.Nat.{_-_, _<_, _^_};
 ghost use Rattle.bitlaws.specs.Digit.{bitOf};
-ghost use Rattle.amplitudelaws.specs.Binary as float;
-ghost use Rattle.amplitudelaws.specs.Probability as sums;
 ghost use Rattle.amplitudelaws.specs.State.{stateOf, point};
 ghost use Rattle.complex.specs.Complex.{complexOf};
 ghost use Rattle.kernels.specs.Kernel.{measurementMeant};
@@ -25,7 +23,7 @@ pub(crate) fn mass(
     let mut sum = 0.0;
     let mut j = 0;
     while j < kernel.out_dim {
-        sum += squared(remaining(re, im, kernel, branch, j));
+        sum += formulas::squared(remaining(re, im, kernel, branch, j));
         j += 1;
     }
     sum
@@ -51,23 +49,4 @@ fn remaining(
         im,
         crate::diagonal::source(j, kernel.pivot, kernel.action.zmask, odd),
     )
-}
-
-fn squared(a: Complex64) -> f64
-    ensures { λ r. ⌜ r ≡ sums.squared float.binary (complexOf a) ⌝ }
-{
-    a.re * a.re + a.im * a.im
-}
-
-// Below 0 gives 0, above 1 gives 1; a NaN is neither and stays.
-pub(crate) fn clamped(p: f64) -> f64
-    ensures { λ r. ⌜ r ≡ float.clamped p ⌝ }
-{
-    if p < 0.0 {
-        return 0.0;
-    }
-    if 1.0 < p {
-        return 1.0;
-    }
-    p
 }

@@ -44,11 +44,11 @@ pub(crate) fn words(call: u8, words: [u64; 20]) {
         b'o' => show::number(bits::is_odd_popcount(words[0]) as u64),
         b'n' => show::made(paulis::pauli_identity(form::index(words[0]))),
         b'i' => insert(form::index(words[0]), form::index(words[1])),
-        b'P' => show::number(bits::mask::packed_bit(a, n) as u64),
-        b'F' => show::number(bits::mask::mask_fits(a, n) as u64),
-        b'W' => show::mask(bits::mask::set_packed_bit(a, n, words[5] == 1)),
-        b'O' => show::number(bits::mask::shared_ones(a, b) as u64),
-        _ => show::mask(bits::mask::xor_words(a, b)),
+        b'P' => show::number(masks::packed_bit(a, n) as u64),
+        b'F' => show::number(masks::mask_fits(a, n) as u64),
+        b'W' => show::mask(masks::set_packed_bit(a, n, words[5] == 1)),
+        b'O' => show::number(masks::shared_ones(a, b) as u64),
+        _ => show::mask(masks::xor_words(a, b)),
     }
 }
 

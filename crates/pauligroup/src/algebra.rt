@@ -15,12 +15,12 @@ pub(crate) fn times(a: PauliString, b: PauliString) -> PauliString
     let bz = b.z;
     // Commuting the right operand's X past the left operand's Z costs a factor of -1 for each
     // overlapping qubit, that is i^2 where their number is odd.
-    let carry = bits::mask::shared_ones(az, bx) % 2;
+    let carry = masks::shared_ones(az, bx) % 2;
     let phase = (wide(a.phase) + wide(b.phase) + 2 * carry) % 4;
     PauliString {
         nqubits: a.nqubits,
-        x: bits::mask::xor_words(ax, bx),
-        z: bits::mask::xor_words(az, bz),
+        x: masks::xor_words(ax, bx),
+        z: masks::xor_words(az, bz),
         phase: phase as u8,
     }
 }
@@ -32,7 +32,7 @@ pub(crate) fn anticommute(a: PauliString, b: PauliString) -> bool
     let az = a.z;
     let bx = b.x;
     let bz = b.z;
-    (bits::mask::shared_ones(ax, bz) + bits::mask::shared_ones(az, bx)) % 2 == 1
+    (masks::shared_ones(ax, bz) + masks::shared_ones(az, bx)) % 2 == 1
 }
 
 // The phase minus the number of Ys, modulo 4.
@@ -41,7 +41,7 @@ pub(crate) fn coefficient(pauli: PauliString) -> u8
 {
     let x = pauli.x;
     let z = pauli.z;
-    ((wide(pauli.phase) + 3 * bits::mask::shared_ones(x, z)) % 4) as u8
+    ((wide(pauli.phase) + 3 * masks::shared_ones(x, z)) % 4) as u8
 }
 
 fn wide(x: u8) -> u32

@@ -2,22 +2,22 @@
 use mathlib.Core.Path.{_≡_, refl, sym, ap, _∙_}
 use mathlib.Core.Logic.{⊎-elim, _↔_}
 use Prim.Native.Nat.{ℕ, _+_, _*_, _%_, _<_}
-use native.Mathlib.Nat.{mod-add-mod, mod-lt, zero-lt-suc}
+use native.Mathlib.Nat.{mod-add-mod, mod-lt, zero-lt-suc, add-mul-mod-self-right}
 use native.Mathlib.Omega.{arith}
-use lib.Bits.{bitXor, xor-zero-r}
+use lib.Bits.{bitXor}
 use Rattle.bitlaws.specs.Digit.{mod-two}
 use Rattle.bitlaws.specs.Order.{last-or-before}
 use Rattle.bitlaws.specs.Xor.{xor-comm, xor-assoc, xor-swap}
-use Rattle.bitlaws.specs.Parity.{overlap, overlap-comm, overlap-xor-l, overlap-xor-r, overlap-zero-r}
-use Rattle.paulilaws.specs.Pauli.{Pauli, identity, product, anti}
+use Rattle.bitlaws.specs.Parity.{overlap, overlap-comm, overlap-xor-l, overlap-xor-r}
+use Rattle.paulilaws.specs.Pauli.{Pauli, product, anti}
 
 -- i^phase times basis state `basis`
 pub record Ket : Type 0 where
   pub phase : ℕ
   pub basis : ℕ
 
-pub ket : {s t : Ket} → s .phase ≡ t .phase → s .basis ≡ t .basis → s ≡ t
-ket p b = λ i. record { phase = p i; basis = b i }
+pub ket-same : {s t : Ket} → s .phase ≡ t .phase → s .basis ≡ t .basis → s ≡ t
+ket-same p b = λ i. record { phase = p i; basis = b i }
 
 -- P sends basis state b to i^k (-1)^parity(b and z) times basis state b xor x
 unfoldable pub acts : Pauli → Ket → Ket
@@ -56,19 +56,12 @@ pub product-acts : (A B : Pauli) (s : Ket) → acts (product A B) s ≡ acts A (
 unfolding acts product
 product-acts A B s =
     let b : ℕ = s .basis in
-    ket
+    ket-same
     (ap (λ (m : ℕ). (s .phase + (A .k + B .k + 2 * overlap (A .z) (B .x)) % 4 + 2 * m) % 4) (overlap-xor-r b (A .z) (B .z))
     ∙ composed (s .phase) (A .k) (B .k) (overlap b (A .z)) (overlap b (B .z)) (overlap (A .z) (B .x))
     ∙ ap (λ (m : ℕ). ((s .phase + B .k + 2 * overlap b (B .z)) % 4 + A .k + 2 * m) % 4)
     (ap (λ (m : ℕ). (overlap b (A .z) + m) % 2) (overlap-comm (A .z) (B .x)) ∙ sym (overlap-xor-l b (B .x) (A .z))))
     (ap (bitXor b) (xor-comm (A .x) (B .x)) ∙ sym (xor-assoc b (B .x) (A .x)))
-
--- a phase in 0..3 is left alone by the identity
-pub identity-acts : (n : ℕ) (s : Ket) → s .phase < 4 → acts (identity n) s ≡ s
-unfolding acts
-identity-acts n s h =
-    let same : (s .phase + 0 + 2 * overlap (s .basis) 0) % 4 ≡ s .phase = omega (arith, overlap-zero-r (s .basis)) in
-    ket same (xor-zero-r (s .basis))
 
 -- what exchanging two Paulis costs, in the phases of the two orders
 exchanged : (s a b u v p q : ℕ) → ((s + b + 2 * v) % 4 + a + 2 * ((u + q) % 2)) % 4 ≡ (((s + a + 2 * u) % 4 + b + 2 * ((v + p) % 2)) % 4 + 2 * ((p + q) % 2)) % 4
@@ -78,20 +71,17 @@ exchanged s a b u v p q =
     let none : (s + a + 2 * u + b + 2 * (v + p)) % 4 ≡ (s + a + 2 * u + b + 2 * (v + p)) % 4 + 0 = omega arith in
     let more : s + a + 2 * u + b + 2 * (v + p) + 0 + 2 * (p + q) ≡ s + b + 2 * v + a + 2 * (u + q) + p * 4 = omega arith in
     left
-    ∙ sym (drop-fours (s + b + 2 * v + a + 2 * (u + q)) p)
+    ∙ sym (add-mul-mod-self-right (s + b + 2 * v + a + 2 * (u + q)) p 4)
     ∙ sym (ap (λ (m : ℕ). (m + 2 * ((p + q) % 2)) % 4) (right ∙ none)
     ∙ half-turns-within (s + a + 2 * u + b + 2 * (v + p)) 0 (p + q)
     ∙ ap (λ (m : ℕ). m % 4) more)
-  where
-    drop-fours : (a p : ℕ) → (a + p * 4) % 4 ≡ a % 4
-    drop-fours a p = omega arith
 
 -- A B = (-1)^(anti A B) B A
 pub exchange : (A B : Pauli) (s : Ket) → acts A (acts B s) ≡ turned (2 * anti A B) (acts B (acts A s))
 unfolding acts turned anti
 exchange A B s =
     let b : ℕ = s .basis in
-    ket
+    ket-same
     (ap (λ (m : ℕ). ((s .phase + B .k + 2 * overlap b (B .z)) % 4 + A .k + 2 * m) % 4)
     (overlap-xor-l b (B .x) (A .z) ∙ ap (λ (m : ℕ). (overlap b (A .z) + m) % 2) (overlap-comm (B .x) (A .z)))
     ∙ exchanged (s .phase) (A .k) (B .k) (overlap b (A .z)) (overlap b (B .z)) (overlap (A .x) (B .z)) (overlap (A .z) (B .x))
@@ -99,7 +89,7 @@ exchange A B s =
     (sym (overlap-xor-l b (A .x) (B .z))))
     (xor-swap b (B .x) (A .x))
 
-pub anti-lt : (A B : Pauli) → anti A B < 2
+anti-lt : (A B : Pauli) → anti A B < 2
 unfolding anti
 anti-lt A B = mod-two (overlap (A .x) (B .z) + overlap (A .z) (B .x))
 
@@ -109,7 +99,7 @@ acts-phase P s = mod-lt (s .phase + P .k + 2 * overlap (s .basis) (P .z)) (zero-
 
 turned-none : (s : Ket) → s .phase < 4 → turned 0 s ≡ s
 unfolding turned
-turned-none s h = let e : (s .phase + 0) % 4 ≡ s .phase = omega arith in ket e refl
+turned-none s h = let e : (s .phase + 0) % 4 ≡ s .phase = omega arith in ket-same e refl
 
 never-half : (s : Ket) → s .phase < 4 → s ≡ turned 2 s → ⊥
 unfolding turned

@@ -1,14 +1,16 @@
 -- What row 3 lets pass, as facts. Assumes nothing.
 use mathlib.Core.Path.{_≡_, refl}
 use mathlib.Core.Bool.{Bool, true, false, _&&_}
-use Prim.Native.Nat.{ℕ, _+_, _*_, _^_, _≤_, _<_}
-use lib.Dec.{leb, ltb}
-use borrow.Author.Tests.{leb-true, ltb-true, le-leb, lt-ltb}
-use Rattle.bitlaws.specs.Writing.{put-lt}
-use Rattle.paulilaws.specs.Pauli.{Pauli, fits, mostQubits}
-use Rattle.paulilaws.specs.Letter.{Letter, xPart, zPart, isY, letterAt, withLetter, x-digit, z-digit}
+use Prim.Native.Nat.{ℕ, _%_, _^_, _≤_, _<_}
 use native.Mathlib.Nat.{mod-lt, zero-lt-suc}
 use native.Mathlib.Omega.{arith}
+use lib.Dec.{leb, ltb}
+use lib.Pow.{pow-pos}
+use borrow.Author.Tests.{leb-true, ltb-true, le-leb, lt-ltb}
+use Rattle.bitlaws.specs.Writing.{put-lt}
+use Rattle.bitlaws.specs.Xor.{xor-lt}
+use Rattle.paulilaws.specs.Pauli.{Pauli, product, fits, identity, mostQubits}
+use Rattle.paulilaws.specs.Letter.{Letter, xPart, zPart, withLetter, x-digit, z-digit}
 
 pub record Fitting (P : Pauli) : Type 0 where
   pub phase : P .k ≤ 3
@@ -44,17 +46,27 @@ pub fitting-fits : (P : Pauli) → Fitting P → fits P ≡ true
 unfolding fits
 fitting-fits P f = rw (le-leb (P .k) 3 (f .phase), le-leb (P .n) mostQubits (f .width), lt-ltb (P .x) (2 ^ P .n) (f .xs), lt-ltb (P .z) (2 ^ P .n) (f .zs))
 
-pub identity-fitting : (n : ℕ) → n ≤ mostQubits → Fitting (record { n = n; k = 0; x = 0; z = 0 })
-identity-fitting n h = record { phase = omega arith; width = h; xs = lib.Pow.pow-pos n; zs = lib.Pow.pow-pos n }
+pub identity-fitting : (n : ℕ) → n ≤ mostQubits → Fitting (identity n)
+identity-fitting n h = record { phase = omega arith; width = h; xs = pow-pos n; zs = pow-pos n }
+
+pub phase-small : (k : ℕ) → k % 4 ≤ 3
+phase-small k = let small = mod-lt k (zero-lt-suc 3) in omega (arith, small)
 
 -- a letter set keeps a Pauli a Pauli
 pub letter-fitting : (q : ℕ) (l : Letter) (P : Pauli) → q < P .n → Fitting P → Fitting (withLetter q l P)
 unfolding withLetter
-letter-fitting q l P h f =
-    let small = mod-lt (P .k + isY l + 3 * isY (letterAt q P)) (zero-lt-suc 3) in
-    record {
-      phase = omega (arith, small);
-      width = f .width;
-      xs = put-lt q (P .n) (xPart l) (P .x) h (x-digit l) (f .xs);
-      zs = put-lt q (P .n) (zPart l) (P .z) h (z-digit l) (f .zs);
-    }
+letter-fitting q l P h f = record {
+  phase = phase-small _;
+  width = f .width;
+  xs = put-lt q (P .n) (xPart l) (P .x) h (x-digit l) (f .xs);
+  zs = put-lt q (P .n) (zPart l) (P .z) h (z-digit l) (f .zs);
+}
+
+pub product-fitting : {A B : Pauli} → B .n ≡ A .n → Fitting A → Fitting B → Fitting (product A B)
+unfolding product
+product-fitting {A} {B} e f g = record {
+  phase = phase-small _;
+  width = f .width;
+  xs = xor-lt (A .n) (A .x) (B .x) (f .xs) (rw e at (g .xs));
+  zs = xor-lt (A .n) (A .z) (B .z) (f .zs) (rw e at (g .zs));
+}

@@ -8,7 +8,7 @@ use Rattle.bitlaws.specs.Opening.{openBit, dropBit, drop-open}
 use Rattle.bitlaws.specs.Parity.{overlap}
 use Rattle.bitlaws.specs.Pivot.{drop-xor, overlap-open}
 use Rattle.paulilaws.specs.Pauli.{Pauli}
-use Rattle.paulilaws.specs.Action.{Ket, ket, acts, turned}
+use Rattle.paulilaws.specs.Action.{Ket, ket-same, acts, turned}
 
 -- times i^e
 unfoldable pub raised : ℕ → Pauli → Pauli
@@ -27,13 +27,13 @@ whole-phase s k e u =
 -- a raised phase is the action, turned
 pub raised-acts : (e : ℕ) (P : Pauli) (s : Ket) → acts (raised e P) s ≡ turned e (acts P s)
 unfolding acts raised turned
-raised-acts e P s = ket (whole-phase (s .phase) (P .k) e (overlap (s .basis) (P .z))) refl
+raised-acts e P s = ket-same (whole-phase (s .phase) (P .k) e (overlap (s .basis) (P .z))) refl
 
 -- dropping a qubit is acting on the basis with the qubit at 0, and leaving out its bit of what comes
 pub dropped-acts : (q : ℕ) (P : Pauli) (s : Ket)
     → let t = acts P (record { phase = s .phase; basis = openBit q (s .basis) }) in acts (dropped q P) s ≡ record { phase = t .phase; basis = dropBit q (t .basis) }
 unfolding acts dropped
 dropped-acts q P s =
-    ket
+    ket-same
     (ap (λ (m : ℕ). (s .phase + P .k + 2 * m) % 4) (sym (overlap-open q (s .basis) (P .z))))
     (sym (drop-xor q (openBit q (s .basis)) (P .x) ∙ ap (λ (m : ℕ). bitXor m (dropBit q (P .x))) (drop-open q (s .basis))))

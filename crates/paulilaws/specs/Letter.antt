@@ -2,10 +2,11 @@
 use mathlib.Core.Path.{_≡_, refl, sym, ap, ap₂, _∙_}
 use Prim.Native.Nat.{ℕ, zero, suc, _+_, _*_, _/_, _%_, _^_, _<_, min}
 use native.Mathlib.Omega.{arith}
-use lib.Bits.{bitAnd, and-shr, and-step}
+use lib.Bits.{bitAnd}
 use lib.Count.{ones}
-use native.Mathlib.Nat.{mod-add-mod}
-use Rattle.bitlaws.specs.Digit.{digit, put, digit-lt, mod-two}
+use native.Mathlib.Nat.{mod-add-mod, add-mul-mod-self-right}
+use Rattle.bitlaws.specs.Digit.{digit, put, digit-lt}
+use Rattle.bitlaws.specs.Bitwise.{digit-and}
 use Rattle.bitlaws.specs.Writing.{digit-put, digit-put-other, put-same, ones-put, and-put}
 use Rattle.paulilaws.specs.Pauli.{Pauli, ys, coefficient}
 
@@ -88,12 +89,6 @@ letter-kept q r l P ne = ap₂ letterOf (digit-put-other q r (xPart l) (P .x) (x
 
 -- ---- the phase follows the Ys
 
-digit-and : (q a b : ℕ) → digit q (bitAnd a b) ≡ min (digit q a) (digit q b)
-unfolding digit
-digit-and q a b =
-    ap (λ (m : ℕ). m % 2) (and-shr a b q)
-    ∙ omega (arith, and-step (a / 2 ^ q) (b / 2 ^ q), mod-two (a / 2 ^ q), mod-two (b / 2 ^ q))
-
 ys-set : (q : ℕ) (l : Letter) (P : Pauli) → ys (withLetter q l P) + isY (letterAt q P) ≡ ys P + isY l
 unfolding ys withLetter letterAt
 ys-set q l P =
@@ -114,10 +109,7 @@ ys-set q l P =
 balance : (k i j y y' : ℕ) → y' + j ≡ y + i → ((k + i + 3 * j) % 4 + 3 * y') % 4 ≡ (k + 3 * y) % 4
 balance k i j y y' e =
     let more : k + i + 3 * j + 3 * y' ≡ k + 3 * y + i * 4 = omega arith in
-    mod-add-mod (k + i + 3 * j) 4 (3 * y') ∙ ap (λ (m : ℕ). m % 4) more ∙ drop-fours (k + 3 * y) i
-  where
-    drop-fours : (a p : ℕ) → (a + p * 4) % 4 ≡ a % 4
-    drop-fours a p = omega arith
+    mod-add-mod (k + i + 3 * j) 4 (3 * y') ∙ ap (λ (m : ℕ). m % 4) more ∙ add-mul-mod-self-right (k + 3 * y) i 4
 
 pub coefficient-kept : (q : ℕ) (l : Letter) (P : Pauli) → coefficient (withLetter q l P) ≡ coefficient P
 unfolding coefficient withLetter

@@ -1,15 +1,15 @@
 -- The highest qubit on which a Pauli is not the identity. Assumes nothing.
-use mathlib.Core.Path.{_≡_, refl, sym, ap, ap₂, _∙_}
+use mathlib.Core.Path.{_≡_, refl, sym, ap₂, _∙_}
 use mathlib.Core.Logic.{_↔_}
 use mathlib.Core.Option.{Option, none, some}
-use Prim.Native.Nat.{ℕ, zero, suc, _/_, _%_, _^_, _<_, max}
+use Prim.Native.Nat.{ℕ, zero, suc, _<_, max}
 use native.Mathlib.Omega.{arith}
-use lib.Bits.{bitOr, or-shr, or-step}
-use Rattle.bitlaws.specs.Digit.{digit, digit-lt, mod-two}
+use lib.Bits.{bitOr}
+use Rattle.bitlaws.specs.Digit.{digit, digit-lt}
+use Rattle.bitlaws.specs.Bitwise.{digit-or}
 use Rattle.bitlaws.specs.Highest.{highest, Top, highest-some, highest-none, highest-top, none-set}
 use Rattle.paulilaws.specs.Pauli.{Pauli}
-use Rattle.paulilaws.specs.Letter.{letterAt, letterOf}
-use Rattle.paulilaws.specs.Letter.{I}
+use Rattle.paulilaws.specs.Letter.{letterAt, letterOf, I}
 
 -- the highest qubit in x or z
 unfoldable pub maxSupport : Pauli → Option ℕ
@@ -20,12 +20,6 @@ pub record TopLetter (P : Pauli) (q : ℕ) : Type 0 where
   pub inside : q < P .n
   pub letter : letterAt q P ≡ I → ⊥
   pub above : (r : ℕ) → q < r → r < P .n → letterAt r P ≡ I
-
-digit-or : (q a b : ℕ) → digit q (bitOr a b) ≡ max (digit q a) (digit q b)
-unfolding digit
-digit-or q a b =
-    ap (λ (m : ℕ). m % 2) (or-shr a b q)
-    ∙ omega (arith, or-step (a / 2 ^ q) (b / 2 ^ q), mod-two (a / 2 ^ q), mod-two (b / 2 ^ q))
 
 letter-clear : (q : ℕ) (P : Pauli) → digit q (bitOr (P .x) (P .z)) ≡ 0 → letterAt q P ≡ I
 unfolding letterAt

@@ -6,8 +6,8 @@ use lib.ListN.{length}
 use lib.Seq.{ext-getD}
 use native.Mathlib.Omega.{arith}
 use Rattle.paulilaws.specs.Pauli.{Pauli}
-use Rattle.bits.specs.Mask.{mask}
-use Rattle.bits.specs.MaskLaws.{Small, mask-same}
+use Rattle.masks.specs.Mask.{mask}
+use Rattle.masks.specs.MaskLaws.{Small, mask-same}
 use Rattle.paulis.specs.Strings.{pauliOf}
 use Rattle.paulis.specs.declared.PauliString.{PauliString}
 

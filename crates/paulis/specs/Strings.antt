@@ -7,7 +7,7 @@ use Rattle.answers.specs.Answer.{Answer, valueOr}
 use Rattle.answers.specs.Answer.Answer.{accepted, refused}
 use Rattle.paulilaws.specs.Pauli.{Pauli, identity}
 use Rattle.paulilaws.specs.Letter.{Letter}
-use Rattle.bits.specs.Mask.{mask}
+use Rattle.masks.specs.Mask.{mask}
 use Rattle.paulis.specs.declared.PauliString.{PauliString}
 use Rattle.paulis.specs.declared.PauliAnswer.{PauliAnswer}
 use Rattle.paulis.specs.declared.Outcome.{Outcome}

@@ -6,7 +6,7 @@ ghost use mathlib.Core.Path.{_≡_};
 ghost use Prim.Native.Nat.{_<_, _≤_};
 ghost use Rattle.paulilaws.specs.Letter as book;
 ghost use Rattle.bitlaws.specs.Digit.{bitOf};
-ghost use Rattle.bits.specs.Mask.{mask};
+ghost use Rattle.masks.specs.Mask.{mask};
 ghost use Rattle.paulis.specs.Calls.{bitCall};
 ghost use Rattle.paulis.specs.Strings.{pauliOf, bitTold, letterMeant};
 
@@ -20,7 +20,7 @@ pub(crate) fn mask_bit(pauli: PauliString, words: [u64; 4], q: usize) -> BitAnsw
     if pauli.nqubits <= q {
         return BitAnswer::Refused(5);
     }
-    BitAnswer::Bit(bits::mask::packed_bit(words, q))
+    BitAnswer::Bit(masks::packed_bit(words, q))
 }
 
 // Qubit q's letter.
@@ -29,7 +29,7 @@ pub(crate) fn at(pauli: PauliString, q: usize) -> Pauli
 {
     let x = pauli.x;
     let z = pauli.z;
-    from_bits(bits::mask::packed_bit(x, q), bits::mask::packed_bit(z, q))
+    from_bits(masks::packed_bit(x, q), masks::packed_bit(z, q))
 }
 
 // The Pauli with qubit q's letter set. k gains 1 for a new Y and loses 1, which is 3 modulo 4, for
@@ -43,8 +43,8 @@ pub(crate) fn with(pauli: PauliString, q: usize, letter: Pauli) -> PauliString
     let was_y = is_y(at(pauli, q));
     PauliString {
         nqubits: pauli.nqubits,
-        x: bits::mask::set_packed_bit(x, q, x_part(letter)),
-        z: bits::mask::set_packed_bit(z, q, z_part(letter)),
+        x: masks::set_packed_bit(x, q, x_part(letter)),
+        z: masks::set_packed_bit(z, q, z_part(letter)),
         phase: (pauli.phase + is_y(letter) + 3 * was_y) % 4,
     }
 }

@@ -10,7 +10,7 @@ ghost use mathlib.Core.Path.{_≡_};
 ghost use Rattle.answers.specs.Answer.{Answer};
 ghost use Rattle.paulilaws.specs.Pauli as book;
 ghost use Rattle.paulilaws.specs.Pauli.{fits};
-ghost use Rattle.bits.specs.Mask.{mask};
+ghost use Rattle.masks.specs.Mask.{mask};
 ghost use Rattle.paulis.specs.Strings.{pauliOf, bitTold, letterTold, supportTold, letterMeant, Made};
 ghost use Rattle.paulis.specs.Calls.{identityCall, partsCall, bitCall, getCall, setCall, supportCall};
 
@@ -129,7 +129,7 @@ impl PauliString {
         }
         let x = self.x;
         let z = self.z;
-        bits::mask::mask_fits(x, self.nqubits) & bits::mask::mask_fits(z, self.nqubits)
+        masks::mask_fits(x, self.nqubits) & masks::mask_fits(z, self.nqubits)
     }
 
     // Whether qubit `q` has an X component.

@@ -6,7 +6,7 @@ ghost use lib.Bits.{bitOr};
 ghost use lib.ListN.{getD};
 ghost use Rattle.answers.specs.Answer.{Answer};
 ghost use Rattle.bitlaws.specs.Highest.{highest};
-ghost use Rattle.bits.specs.Mask.{mask};
+ghost use Rattle.masks.specs.Mask.{mask};
 ghost use Rattle.paulis.specs.Strings.{supportTold};
 
 // The highest bit set in either mask: from the top word down, the first that is not zero has it.

@@ -68,7 +68,7 @@ z-of (suc a) (suc (suc b)) h = absurd (omega arith)
 phases-same : (k l y : ℕ) → k ≤ 3 → l ≤ 3 → (k + 3 * y) % 4 ≡ (l + 3 * y) % 4 → k ≡ l
 phases-same k l y hk hl e = omega arith
 
-pub letters-same : (P R : Pauli) → Fitting P → Fitting R → P .n ≡ R .n → coefficient P ≡ coefficient R
+letters-same : (P R : Pauli) → Fitting P → Fitting R → P .n ≡ R .n → coefficient P ≡ coefficient R
     → ((i : ℕ) → i < P .n → letterAt i P ≡ letterAt i R) → P ≡ R
 unfolding letterAt coefficient ys
 letters-same P R fp fr n c e =

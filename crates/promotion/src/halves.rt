@@ -1,7 +1,7 @@
 // The two halves of the wider state, written from the narrower one.
 use complex::Complex64;
 ghost use mathlib.Core.Path.{_≡_};
-ghost use Prim.Native.Nat.{suc, _+_, _≤_, _<_, _^_};
+ghost use Prim.Native.Nat.{suc, _≤_, _<_, _^_};
 ghost use lib.ListN.{length};
 ghost use Rattle.amplitudelaws.specs.Arithmetic.{scale};
 ghost use Rattle.amplitudelaws.specs.Binary.{binary};

@@ -4,7 +4,7 @@ use mathlib.Core.Path.{_≡_, refl, sym, ap, _∙_}
 use mathlib.Core.Bool.{Bool, true, false, not, _&&_}
 use Prim.Native.Nat.{ℕ, zero, suc, _+_, _-_, _≤_, _<_}
 use native.Mathlib.Omega.{arith}
-use lib.Dec.{ltb, eqb, lit<}
+use lib.Dec.{leb, ltb, eqb, lit<}
 use lib.Ieee.{Float, nan, inf, fin, le, lt, eq}
 use lib.Ieee.Scale.{finite}
 use borrow.Author.Tests.{ltb-false, le-leb, lt-leb}
@@ -12,10 +12,10 @@ use Rattle.answers.specs.Row.{row, first, first-some, first-none, first-passed,
 use Rattle.bitlaws.specs.Digit.{bitOf}
 use Rattle.paulilaws.specs.Pauli.{Pauli}
 use Rattle.amplitudelaws.specs.Binary.{inUnit}
-use Rattle.amplitudelaws.specs.Rows.{widthRow, hermitianRow, unitRow, rotationKernelRow, pivotRow, measurementRow, widestKernel}
+use Rattle.amplitudelaws.specs.Rows.{widthRow, hermitianRow, unitRow, rotationKernelRow, pivotRow, measurementRow, promotedWidthRow, widestKernel}
 use Rattle.amplitudelaws.specs.Passed.{measurement-passed}
-use Rattle.framelaws.specs.Step.{Step, widthAfter}
-use Rattle.framelaws.specs.Step.Step.{rotation, promotion, projection, correction}
+use Rattle.amplitudelaws.specs.Step.{Step, widthAfter}
+use Rattle.amplitudelaws.specs.Step.Step.{rotation, promotion, projection, correction}
 use Rattle.framelaws.specs.Rows.{rotationStepRow, promotionStepRow, projectionStepRow}
 use Rattle.runlaws.specs.Reading.{Cursor, unless, judgedBy}
 use Rattle.runlaws.specs.Reading.Read.{stepRead, refusedRead}
@@ -108,17 +108,25 @@ module _ (P : Pauli) (sign : ℕ) (c s : Float) where
 -- ---- a promotion
 
 module _ (limit n : ℕ) (c q : Float) where
-  pub promotion-unit : (u : ℕ) → u ≡ unitRow c q → 0 < u → u ≡ promotionStepRow limit n c q
+  pub promotion-width : (w : ℕ) → w ≡ promotedWidthRow n → 0 < w → w ≡ promotionStepRow limit n c q
   unfolding promotionStepRow
-  promotion-unit u e some = first-row u e some _
+  promotion-width w e some = first-row w e some _
 
-  pub promotion-limit : unitRow c q ≡ 0 → limit ≤ n → 15 ≡ promotionStepRow limit n c q
-  unfolding promotionStepRow first row
-  promotion-limit e h = rw (e, le-leb limit n h)
+  module _ (narrow : promotedWidthRow n ≡ 0) where
+    promotion-floats : promotionStepRow limit n c q ≡ first (unitRow c q) (row (leb limit n) 15 0)
+    unfolding promotionStepRow
+    promotion-floats = first-none (promotedWidthRow n) _ narrow
 
-  pub promotion-passed : unitRow c q ≡ 0 → n < limit → promotionStepRow limit n c q ≡ 0
-  unfolding promotionStepRow first row
-  promotion-passed e h = rw (e, lt-leb limit n h)
+    pub promotion-unit : (u : ℕ) → u ≡ unitRow c q → 0 < u → u ≡ promotionStepRow limit n c q
+    promotion-unit u e some = first-row u e some _ ∙ sym promotion-floats
+
+    pub promotion-limit : unitRow c q ≡ 0 → limit ≤ n → 15 ≡ promotionStepRow limit n c q
+    unfolding first row
+    promotion-limit e h = sym (promotion-floats ∙ rw (e, le-leb limit n h))
+
+    pub promotion-passed : unitRow c q ≡ 0 → n < limit → promotionStepRow limit n c q ≡ 0
+    unfolding first row
+    promotion-passed e h = promotion-floats ∙ rw (e, lt-leb limit n h)
 
   pub promotion-step : (at : Cursor) (next : ℕ) {x y : Float} → x ≡ c → y ≡ q → promotionStepRow limit n c q ≡ 0
       → stepRead (promotion x y) (record { at = next; width = at .width + 1 }) ≡ judgedBy (promotionStepRow limit n c q) at next (promotion c q)

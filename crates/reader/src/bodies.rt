@@ -1,4 +1,4 @@
-// The body of each kind of step. The lowest number that refuses is answered: 3, 7 and 8 of the
+// The body of each kind of step. The lowest number that refuses is answered: 3 and 6 to 8 of the
 // kernels' rows, 9 to 12 of a projection's, then 14 for a sign or a branch over 1, 15 for a promotion at
 // the limit.
 use crate::FloatAnswer;
@@ -12,7 +12,7 @@ ghost use lib.ListN.{length};
 ghost use Rattle.activepauli.specs.Active.{activeOf};
 ghost use Rattle.amplitudelaws.specs.Rows.{widthRow, widestKernel};
 ghost use Rattle.framelaws.specs.Rows.{rotationStepRow, promotionStepRow, projectionStepRow};
-ghost use Rattle.framelaws.specs.Step.{Step as step};
+ghost use Rattle.amplitudelaws.specs.Step.{Step as step};
 ghost use Rattle.runlaws.specs.Bytes.{byteAt, floatAt, pauliAt};
 ghost use Rattle.runlaws.specs.Reading.{judgedBy};
 ghost use Rattle.steps.specs.Meant.{cursorOf, readTold};
@@ -79,6 +79,13 @@ pub(crate) fn promotion(body: &[u8], cursor: Cursor, next: usize, limit: usize) 
     requires { ⌜ length (now body) ≡ 16 ⌝ }
     ensures { λ r. ⌜ readTold r ≡ judgedBy (promotionStepRow limit (cursor .width) (floatAt (now (body .entry)) 0) (floatAt (now (body .entry)) 8)) (cursorOf cursor) next (step.promotion (floatAt (now (body .entry)) 0) (floatAt (now (body .entry)) 8)) ⌝ }
 {
+    let too_wide = rows::first(
+        rows::row(256 < cursor.width, 3),
+        rows::row(60 < cursor.width, 6),
+    );
+    if too_wide != 0 {
+        return Read::Refused(too_wide, cursor.at);
+    }
     let FloatAnswer::Float(c) = float(body, 0) else {
         return Read::Refused(8, cursor.at);
     };

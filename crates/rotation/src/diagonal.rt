@@ -39,7 +39,7 @@ fn rotate_at(re: &mut [f64], im: &mut [f64], b: usize, zmask: u64, sign: bool, c
         re: re[b],
         im: im[b],
     };
-    let r = crate::formula::rotated_alone(c, t, p);
+    let r = formulas::rotated_alone(c, t, p);
     re[b] = r.re;
     im[b] = r.im;
 }

@@ -6,7 +6,6 @@ use kernels::RotationKernelAnswer;
 use kernels::StepAnswer;
 
 mod diagonal;
-mod formula;
 mod pairs;
 
 ghost use mathlib.Core.Path.{_≡_};

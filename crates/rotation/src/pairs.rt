@@ -50,8 +50,8 @@ fn rotate_imag_pair(re: &mut [f64], im: &mut [f64], left: usize, right: usize, c
         re: re[right],
         im: im[right],
     };
-    let a = crate::formula::rotated_with(c, t, p, q);
-    let b = crate::formula::rotated_with(c, t, q, p);
+    let a = formulas::rotated_with(c, t, p, q);
+    let b = formulas::rotated_with(c, t, q, p);
     re[left] = a.re;
     im[left] = a.im;
     re[right] = b.re;

@@ -11,7 +11,7 @@ ghost use Prim.Native.Nat.{_≤_};
 pub(crate) fn call(call: u8, run: &[u8], words: [u64; 12], rest: &[u8]) {
     match call {
         b'd' => write::field(run, form::index(words[0])),
-        b't' => write::start(reader::start(run, form::index(words[0]))),
+        b't' => write::start(fields::start(run, form::index(words[0]))),
         b'p' => step(run, words),
         b'k' => write::check(checker::check_run(run)),
         b's' => cuts(run),

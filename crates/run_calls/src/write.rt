@@ -2,11 +2,11 @@
 use activepauli::ActivePauli;
 use carrier::CarryAnswer;
 use checker::CheckAnswer;
+use fields::FieldAnswer;
+use fields::StartAnswer;
 use kernel_calls::write;
 use libc::STDOUT_FILENO;
 use pauli_calls::show;
-use reader::FieldAnswer;
-use reader::StartAnswer;
 use runner::RunAnswer;
 use steps::Cursor;
 use steps::Read;
@@ -39,14 +39,14 @@ fn wide(byte: u8) -> u64 {
 
 // The tag, where the next field begins, and the body.
 pub(crate) fn field(run: &[u8], at: usize) {
-    match reader::field(run, at) {
+    match fields::field(run, at) {
         FieldAnswer::Whole { tag, next } => {
             show::number(tag as u64);
             write::number(next as u64);
         }
         FieldAnswer::Cut => word(b"cut"),
     }
-    hex(reader::body(run, at));
+    hex(fields::body(run, at));
 }
 
 pub(crate) fn start(answer: StartAnswer) {

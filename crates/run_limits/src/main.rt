@@ -1,5 +1,5 @@
-// Runs at their limits, as reader, checker, runner and carrier answer them: standard input has the calls, and
-// the file stdout beside this folder the answers, which vectors/runs.py gives.
+// Runs at their limits, as fields, reader, checker, runner and carrier answer them: standard input has the calls,
+// and the file stdout beside this folder the answers, which vectors/runs.py gives.
 use libc::STDIN_FILENO;
 
 fn main() {

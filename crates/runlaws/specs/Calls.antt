@@ -1,15 +1,15 @@
 -- What the calls on runs answer, and what they leave in the lent buffers, refused or not. Assumes nothing.
-use mathlib.Core.Bool.{Bool, not, _&&_}
+use mathlib.Core.Bool.{not, _&&_}
 use mathlib.Core.List.{List, _++_}
 use Prim.Native.Nat.{ℕ}
-use lib.Dec.{leb, ltb, eqb}
+use lib.Dec.{ltb, eqb}
 use lib.ListN.{length, drop}
 use Rattle.answers.specs.Answer.{Answer}
 use Rattle.answers.specs.Answer.Answer.{accepted, refused, refusedAt}
 use Rattle.answers.specs.Row.{row, answered, left}
 use Rattle.paulilaws.specs.Pauli.{Pauli, fits}
 use Rattle.amplitudelaws.specs.Rows.{roomRow}
-use Rattle.amplitudelaws.specs.State.{State, room}
+use Rattle.amplitudelaws.specs.State.{roomFor, room}
 use Rattle.framelaws.specs.Carrying.{carriedSteps, endPauli}
 use Rattle.framelaws.specs.Memory.{Memory, ran}
 use Rattle.framelaws.specs.Survey.{Survey, survey}
@@ -49,13 +49,9 @@ pub record Ending : Type 0 where
 abbrev pub endingOf : Survey → Ending
 endingOf v = record { width = v .width; steps = v .steps }
 
--- both scratch lists have room for k amplitudes
-unfoldable pub scratchRoom : ℕ → State → Bool
-scratchRoom k S = leb k (length (S .re)) && leb k (length (S .im))
-
 -- 13: the state's room at the greatest width, the scratch's for the largest state that a projection with an X part leaves
 unfoldable pub memoryRow : Survey → Memory → ℕ
-memoryRow v m = roomRow (room (v .greatest) (m .state) && scratchRoom (v .scratch) (m .scratch))
+memoryRow v m = roomRow (room (v .greatest) (m .state) && roomFor (v .scratch) (m .scratch))
 
 unfoldable pub running : ℕ → List ℕ → Memory → Outcome Ending Memory
 running limit s m = onRun (runOf limit s) m (λ R. byRow (memoryRow (surveyOf R) m) (endingOf (surveyOf R)) (ran (R .width) (R .steps) m) m)

@@ -18,9 +18,9 @@ unfoldable pub bodyLength : List ℕ → ℕ → ℕ
 bodyLength s at = byteAt s (at + 1) + 256 * byteAt s (at + 2)
 
 -- whether the field at `at` stands whole in the run
-unfoldable pub whole : List ℕ → ℕ → Bool
-whole s at = leb (at + 3 + bodyLength s at) (length s)
+unfoldable pub isWhole : List ℕ → ℕ → Bool
+isWhole s at = leb (at + 3 + bodyLength s at) (length s)
 
 -- the field at `at`, none where it is cut
 unfoldable pub fieldAt : List ℕ → ℕ → Option Field
-fieldAt s at = cond (whole s at) (some (record { tag = byteAt s at; body = part (at + 3) (bodyLength s at) s; next = at + 3 + bodyLength s at })) none
+fieldAt s at = cond (isWhole s at) (some (record { tag = byteAt s at; body = part (at + 3) (bodyLength s at) s; next = at + 3 + bodyLength s at })) none

@@ -5,19 +5,17 @@ use mathlib.Core.List.{List}
 use mathlib.Core.Option.{Option, none, some}
 use Prim.Native.Nat.{ℕ, zero, suc, _+_, _≤_}
 use native.Mathlib.Omega.{arith}
-use lib.Dec.{leb, eqb, lit<}
+use lib.Dec.{leb, eqb}
 use lib.Ieee.{Float}
 use lib.ListN.{length, length-take, length-drop}
-use borrow.Author.Tests.{leb-true, leb-false, lt-leb, eqb-true}
-use Rattle.answers.specs.Row.{row, row-passed, first-passed}
+use borrow.Author.Tests.{leb-true, lt-leb, eqb-true}
 use Rattle.paulilaws.specs.Fitting.{both-left, both-right}
-use Rattle.amplitudelaws.specs.Rows.{unitRow}
-use Rattle.framelaws.specs.Step.{Step, widthAfter}
-use Rattle.framelaws.specs.Step.Step.{rotation, promotion, projection, correction}
-use Rattle.framelaws.specs.Rows.{stepRow, promotionStepRow}
+use Rattle.amplitudelaws.specs.Step.{Step, widthAfter}
+use Rattle.amplitudelaws.specs.Step.Step.{rotation, promotion, projection, correction}
+use Rattle.framelaws.specs.Rows.{stepRow}
 use Rattle.framelaws.specs.Allowed.{Placed}
 use Rattle.runlaws.specs.Bytes.{byteAt, floatAt, pauliAt, part}
-use Rattle.runlaws.specs.Field.{Field, bodyLength, whole, fieldAt}
+use Rattle.runlaws.specs.Field.{Field, bodyLength, isWhole, fieldAt}
 use Rattle.runlaws.specs.Flags.{fieldSize}
 use Rattle.runlaws.specs.Reading.{Cursor, Read, isField, decoded, unless, judgedBy, judged, readField, readAt}
 use Rattle.runlaws.specs.Reading.Read.{stepRead, endRead, refusedRead}
@@ -43,7 +41,7 @@ module _ (s : List ℕ) (at : ℕ) where
   WholeOr (some f) = Whole s at f
 
   pub field-whole : (f : Field) → fieldAt s at ≡ some f → Whole s at f
-  unfolding fieldAt whole WholeOr
+  unfolding fieldAt isWhole WholeOr
   field-whole f e = subst WholeOr e
       (by-test WholeOr (leb (at + 3 + bodyLength s at) (length s))
       (λ h.
@@ -53,7 +51,7 @@ module _ (s : List ℕ) (at : ℕ) where
 
   -- nothing stands past the end
   pub field-past : length s ≤ at → fieldAt s at ≡ none
-  unfolding fieldAt whole
+  unfolding fieldAt isWhole
   field-past h = rw (lt-leb (at + 3 + bodyLength s at) (length s) (omega arith))
 
 -- the fields that are steps, and their steps
@@ -76,7 +74,7 @@ module _ (n : ℕ) (f : Field) where
   pub has-size : (tag size : ℕ) → isField tag size f ≡ true → length (f .body) ≡ size
   has-size tag size h = eqb-true (length (f .body)) size (both-right (eqb (f .tag) tag) (eqb (length (f .body)) size) h)
 
-  pub decodes : (t : Step Float) → decoded n f ≡ some t → Decodes n f t
+  decodes : (t : Step Float) → decoded n f ≡ some t → Decodes n f t
   unfolding decoded DecodesOr
   decodes t e = subst DecodesOr e
       (by-test DecodesOr (isField 2 34 f) (λ h. rotates (has-tag 2 34 h) (has-size 2 34 h))
@@ -125,45 +123,30 @@ pub record StepRead (limit : ℕ) (s : List ℕ) (c : Cursor) (t : Step Float) (
   pub placed : Placed (c .width) t
 
 module _ (limit : ℕ) (s : List ℕ) (c : Cursor) where
-  Said : Read → Type 0
-  Said (stepRead t d) = StepField limit s c d t
-  Said (endRead d) = (c .at + 3 ≤ d .at) × (d .at ≤ length s) × (d .width ≡ c .width)
-  Said (refusedRead n at) = at ≡ c .at
+  StepFieldOr : Read → Type 0
+  StepFieldOr (stepRead t d) = StepField limit s c d t
+  StepFieldOr (endRead d) = Unit
+  StepFieldOr (refusedRead n at) = Unit
 
   module _ (f : Field) (here : fieldAt s (c .at) ≡ some f) where
-    said-row : (t : Step Float) → Decodes (c .width) f t → (r : ℕ) → stepRow limit (c .width) t ≡ r → Said (judgedBy r c (f .next) t)
-    unfolding Said judgedBy unless
-    said-row t is zero e = record { field = f; here = here; is = is; row = e; behind = refl }
-    said-row t is (suc r) e = refl
+    row-read : (t : Step Float) → Decodes (c .width) f t → (r : ℕ) → stepRow limit (c .width) t ≡ r → StepFieldOr (judgedBy r c (f .next) t)
+    unfolding StepFieldOr judgedBy unless
+    row-read t is zero e = record { field = f; here = here; is = is; row = e; behind = refl }
+    row-read t is (suc r) e = tt
 
-    said-judged : (o : Option (Step Float)) → decoded (c .width) f ≡ o → Said (judged limit c (f .next) o)
-    unfolding Said judged
-    said-judged none e = refl
-    said-judged (some t) e = said-row t (decodes (c .width) f t e) (stepRow limit (c .width) t) refl
+    judged-read : (o : Option (Step Float)) → decoded (c .width) f ≡ o → StepFieldOr (judged limit c (f .next) o)
+    unfolding StepFieldOr judged
+    judged-read none e = tt
+    judged-read (some t) e = row-read t (decodes (c .width) f t e) (stepRow limit (c .width) t) refl
 
-  said-field : (o : Option Field) → fieldAt s (c .at) ≡ o → Said (readField limit c o)
-  unfolding Said readField
-  said-field none e = refl
-  said-field (some f) e =
-      let w = field-whole s (c .at) f e in
-      by-test Said (isField 6 0 f) (λ h. (omega (arith, w .next), omega (arith, w .next, w .inside), refl))
-      (λ h. said-judged f e (decoded (c .width) f) refl)
-
-  said : Said (readAt limit s c)
-  unfolding readAt
-  said = said-field (fieldAt s (c .at)) refl
+  field-read : (o : Option Field) → fieldAt s (c .at) ≡ o → StepFieldOr (readField limit c o)
+  unfolding StepFieldOr readField
+  field-read none e = tt
+  field-read (some f) e = by-test StepFieldOr (isField 6 0 f) (λ h. tt) (λ h. judged-read f e (decoded (c .width) f) refl)
 
   pub step-field : (d : Cursor) (t : Step Float) → readAt limit s c ≡ stepRead t d → StepField limit s c d t
-  unfolding Said
-  step-field d t e = subst Said e said
-
-  pub end-read : (d : Cursor) → readAt limit s c ≡ endRead d → (c .at + 3 ≤ d .at) × (d .at ≤ length s) × (d .width ≡ c .width)
-  unfolding Said
-  end-read d e = subst Said e said
-
-  pub refused-read : (n at : ℕ) → readAt limit s c ≡ refusedRead n at → at ≡ c .at
-  unfolding Said
-  refused-read n at e = subst Said e said
+  unfolding StepFieldOr readAt
+  step-field d t e = subst StepFieldOr e (field-read (fieldAt s (c .at)) refl)
 
   pub step-read : (d : Cursor) (t : Step Float) → readAt limit s c ≡ stepRead t d → StepRead limit s c t d
   step-read d t e =
@@ -184,12 +167,3 @@ size-ge (rotation P sign c s) = omega arith
 size-ge (promotion c q) = omega arith
 size-ge (projection M p v invnorm) = omega arith
 size-ge (correction P) = omega arith
-
--- a step keeps the width within the limit
-pub width-kept : (limit n : ℕ) (t : Step Float) → n ≤ limit → stepRow limit n t ≡ 0 → widthAfter n t ≤ limit
-unfolding widthAfter stepRow promotionStepRow
-width-kept limit n (rotation P sign c s) h e = h
-width-kept limit n (promotion c q) h e =
-    leb-false limit n (row-passed (leb limit n) 15 0 (lit< tt) (first-passed (unitRow c q) (row (leb limit n) 15 0) e .1) .0)
-width-kept limit n (projection M p v invnorm) h e = omega arith
-width-kept limit n (correction P) h e = h

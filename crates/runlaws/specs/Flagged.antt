@@ -8,9 +8,10 @@ use lib.ListN.{length, length-set}
 use lib.Seq.{set-append-left}
 use Rattle.answers.specs.Answer.Answer.{accepted}
 use Rattle.paulilaws.specs.Pauli.{Pauli}
-use Rattle.framelaws.specs.Step.{Step}
-use Rattle.framelaws.specs.Step.Step.{rotation, promotion, projection, correction}
+use Rattle.amplitudelaws.specs.Step.{Step}
+use Rattle.amplitudelaws.specs.Step.Step.{rotation, promotion, projection, correction}
 use Rattle.framelaws.specs.Carrying.{carriedStep, passed, carriedSteps}
+use Rattle.framelaws.specs.Carried.{flagless-carried}
 use Rattle.runlaws.specs.Bytes.{byteAt}
 use Rattle.runlaws.specs.Flags.{fieldSize, flagAt, flagged}
 use Rattle.runlaws.specs.Reading.{Cursor}
@@ -49,40 +50,37 @@ module _ {R : Type 0} where
   flags-kept at (t ∷ ts) s i h = flags-kept (at + fieldSize t) ts (flagAt at t s) i (omega arith) ∙ flag-kept at t s i (λ b e. omega arith)
 
   pub carried-size : (Q : Pauli) (t : Step R) → fieldSize (carriedStep Q t) ≡ fieldSize t
-  unfolding fieldSize carriedStep
-  carried-size Q (rotation P sign c q) = refl
-  carried-size Q (promotion c q) = refl
-  carried-size Q (projection M p v invnorm) = refl
-  carried-size Q (correction P) = refl
+  unfolding fieldSize
+  carried-size = flagless-carried fieldSize (λ P sign sign' c s. refl) (λ M p v v' invnorm. refl)
 
 -- ---- flags written into a copy of the run in a longer buffer
 
 -- the fields of the steps, the first beginning at `at`, lie in the first n bytes
-abbrev pub Inside : {R : Type 0} → ℕ → List (Step R) → ℕ → Type 0
+abbrev Inside : {R : Type 0} → ℕ → List (Step R) → ℕ → Type 0
 Inside at [] n = Unit
 Inside at (t ∷ ts) n = (at + fieldSize t ≤ n) × Inside (at + fieldSize t) ts n
 
 module _ {R : Type 0} where
-  pub flag-append : (at : ℕ) (t : Step R) (s rest : List ℕ) → at + fieldSize t ≤ length s → flagAt at t (s ++ rest) ≡ flagAt at t s ++ rest
+  flag-append : (at : ℕ) (t : Step R) (s rest : List ℕ) → at + fieldSize t ≤ length s → flagAt at t (s ++ rest) ≡ flagAt at t s ++ rest
   unfolding flagAt fieldSize
   flag-append at (rotation P sign c q) s rest h = set-append-left s rest (at + 20) sign (omega arith)
   flag-append at (promotion c q) s rest h = refl
   flag-append at (projection M p v invnorm) s rest h = set-append-left s rest (at + 21) v (omega arith)
   flag-append at (correction P) s rest h = refl
 
-  pub flags-append : (at : ℕ) (ts : List (Step R)) (s rest : List ℕ) → Inside at ts (length s) → flagged at ts (s ++ rest) ≡ flagged at ts s ++ rest
+  flags-append : (at : ℕ) (ts : List (Step R)) (s rest : List ℕ) → Inside at ts (length s) → flagged at ts (s ++ rest) ≡ flagged at ts s ++ rest
   unfolding flagged
   flags-append at [] s rest h = refl
   flags-append at (t ∷ ts) s rest h =
       ap (flagged (at + fieldSize t) ts) (flag-append at t s rest (h .0))
       ∙ flags-append (at + fieldSize t) ts (flagAt at t s) rest (rw (flag-length at t s) (h .1))
 
-  pub inside-carried : (at : ℕ) (ts : List (Step R)) (n : ℕ) (Q : Pauli) → Inside at ts n → Inside at (carriedSteps Q ts) n
+  inside-carried : (at : ℕ) (ts : List (Step R)) (n : ℕ) (Q : Pauli) → Inside at ts n → Inside at (carriedSteps Q ts) n
   unfolding carriedSteps
   inside-carried at [] n Q h = tt
   inside-carried at (t ∷ ts) n Q h = rw (carried-size Q t) (h .0, inside-carried (at + fieldSize t) ts n (passed Q t) (h .1))
 
-pub walk-inside : (limit fuel : ℕ) (s : List ℕ) (c : Cursor) (ts : List (Step Float)) → length s ≤ c .at + fuel → walk limit fuel s c ≡ accepted ts
+walk-inside : (limit fuel : ℕ) (s : List ℕ) (c : Cursor) (ts : List (Step Float)) → length s ≤ c .at + fuel → walk limit fuel s c ≡ accepted ts
     → Inside (c .at) ts (length s)
 walk-inside limit fuel s c [] h e = tt
 walk-inside limit fuel s c (t ∷ ts) h e =

@@ -2,8 +2,8 @@
 use mathlib.Core.List.{List, [], _∷_}
 use Prim.Native.Nat.{ℕ, _+_}
 use lib.ListN.{set}
-use Rattle.framelaws.specs.Step.{Step}
-use Rattle.framelaws.specs.Step.Step.{rotation, promotion, projection, correction}
+use Rattle.amplitudelaws.specs.Step.{Step}
+use Rattle.amplitudelaws.specs.Step.Step.{rotation, promotion, projection, correction}
 
 module _ {R : Type 0} where
   -- the bytes of a step's field: three, and its body's

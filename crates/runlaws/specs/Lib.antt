@@ -15,3 +15,4 @@ pub mod OwnBytes
 pub mod Flagged
 pub mod Reread
 pub mod Theorem
+pub mod Exact

@@ -1,13 +1,11 @@
--- Laws of an answer whose value is changed. Assumes nothing.
+-- An answer whose value is changed: what it says of the answer that it was. Assumes nothing.
 use mathlib.Core.Path.{_≡_, refl, sym}
 use Prim.Native.Nat.{ℕ}
 use native.Mathlib.Omega.{arith}
 use Rattle.answers.specs.Answer.{Answer}
 use Rattle.answers.specs.Answer.Answer.{accepted, refused, refusedAt}
+use Rattle.answers.specs.Row.{refused-accepted, refusedAt-accepted}
 use Rattle.runlaws.specs.Run.{mapped}
-
-pub no-answer : {A : Type 0} {a : A} {n i : ℕ} → refusedAt n i ≡ accepted a → ⊥
-no-answer e = let z : _≡_ {A = ℕ} 0 1 = cc in omega arith
 
 module _ {A B : Type 0} (f : A → B) where
   -- an accepted value comes from one
@@ -19,13 +17,13 @@ module _ {A B : Type 0} (f : A → B) where
   pub mapped-accepted : (a : Answer A) (b : B) → mapped f a ≡ accepted b → From a b
   unfolding mapped
   mapped-accepted (accepted a) b e = record { value = a; was = refl; is = cc }
-  mapped-accepted (refused n) b e = absurd (let z : _≡_ {A = ℕ} 0 1 = cc in omega arith)
-  mapped-accepted (refusedAt n i) b e = absurd (no-answer e)
+  mapped-accepted (refused n) b e = absurd (refused-accepted e)
+  mapped-accepted (refusedAt n i) b e = absurd (refusedAt-accepted e)
 
 -- and a refusal is one
 pub mapped-refused : {A B : Type 0} (f : A → B) (a : Answer A) (n i : ℕ) → mapped f a ≡ refusedAt n i → a ≡ refusedAt n i
 unfolding mapped
-mapped-refused f (accepted a) n i e = absurd (no-answer (sym e))
+mapped-refused f (accepted a) n i e = absurd (refusedAt-accepted (sym e))
 mapped-refused f (refused m) n i e = absurd (let z : _≡_ {A = ℕ} 0 1 = cc in omega arith)
 mapped-refused f (refusedAt m j) n i e = cc
 

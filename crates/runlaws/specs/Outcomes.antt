@@ -10,21 +10,21 @@ use lib.ListN.{length, drop}
 use borrow.Author.Tests.{eqb-true, ltb-false, not-false}
 use Rattle.answers.specs.Answer.{Answer}
 use Rattle.answers.specs.Answer.Answer.{accepted, refused, refusedAt}
-use Rattle.answers.specs.Row.{row, answered, left, accepted-row, answered-none, left-none, row-passed}
+use Rattle.answers.specs.Row.{row, answered, left, refused-accepted, refusedAt-accepted, accepted-row, answered-none, left-none, row-passed}
 use Rattle.paulilaws.specs.Pauli.{Pauli, fits}
 use Rattle.paulilaws.specs.Fitting.{Fitting, fits-fitting, both-left, both-right}
 use Rattle.amplitudelaws.specs.Rows.{roomRow}
-use Rattle.amplitudelaws.specs.State.{room}
+use Rattle.amplitudelaws.specs.State.{roomFor, room}
 use Rattle.framelaws.specs.Allowed.{Allowed}
 use Rattle.framelaws.specs.Carrying.{endPauli}
 use Rattle.framelaws.specs.Memory.{Memory, ran}
-use Rattle.framelaws.specs.Step.{Step, widthAfter, lastWidth}
+use Rattle.framelaws.specs.Passing.{width-kept}
+use Rattle.amplitudelaws.specs.Step.{Step, widthAfter, lastWidth}
 use Rattle.framelaws.specs.Survey.{Survey}
 use Rattle.framelaws.specs.Surveyed.{survey-width}
 use Rattle.runlaws.specs.Run.{Run, runOf}
-use Rattle.runlaws.specs.Calls.{Outcome, onRun, byRow, surveyOf, Ending, endingOf, scratchRoom, memoryRow, running, carryingRow, carriedRun, carrying}
+use Rattle.runlaws.specs.Calls.{Outcome, onRun, byRow, surveyOf, Ending, endingOf, memoryRow, running, carryingRow, carriedRun, carrying}
 use Rattle.runlaws.specs.Ledger.{isAccepted}
-use Rattle.runlaws.specs.Fields.{width-kept}
 use Rattle.runlaws.specs.WholeRun.{run-allowed}
 
 -- a call that has done its work: the run that it read, and no row of its own
@@ -45,8 +45,8 @@ module _ {A B : Type 0} (row : Run → ℕ) (value : Run → A) (new : Run → B
   done (accepted R) a e =
       let known = accepted-row (row R) (value R) a (sym e) in
       record { run = R; was = refl; passed = known .0; value-is = known .1; lent-is = left-none (row R) (new R) old (known .0) }
-  done (refused n) a e = absurd (let z : _≡_ {A = ℕ} 0 1 = cc in omega arith)
-  done (refusedAt n at) a e = absurd (let z : _≡_ {A = ℕ} 0 1 = cc in omega arith)
+  done (refused n) a e = absurd (refused-accepted e)
+  done (refusedAt n at) a e = absurd (refusedAt-accepted e)
 
   answers : (read : Answer Run) (R : Run) → read ≡ accepted R → row R ≡ 0 → (outcome read .answer ≡ accepted (value R)) × (outcome read .lent ≡ new R)
   unfolding onRun byRow
@@ -65,11 +65,11 @@ module _ {A B : Type 0} (row : Run → ℕ) (value : Run → A) (new : Run → B
 -- ---- running
 
 -- both groups of buffers have their room
-pub room-both : (v : Survey) (m : Memory) → memoryRow v m ≡ 0 → (room (v .greatest) (m .state) ≡ true) × (scratchRoom (v .scratch) (m .scratch) ≡ true)
+pub room-both : (v : Survey) (m : Memory) → memoryRow v m ≡ 0 → (room (v .greatest) (m .state) ≡ true) × (roomFor (v .scratch) (m .scratch) ≡ true)
 unfolding memoryRow roomRow
 room-both v m e =
     let a : Bool = room (v .greatest) (m .state) in
-    let b : Bool = scratchRoom (v .scratch) (m .scratch) in
+    let b : Bool = roomFor (v .scratch) (m .scratch) in
     let enough = not-false (a && b) (row-passed (not (a && b)) 13 0 (lit< tt) e .0) in
     (both-left a b enough, both-right a b enough)
 

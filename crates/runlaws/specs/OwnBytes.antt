@@ -9,7 +9,7 @@ use lib.ListN.{length, set, drop, length-set, length-take, length-drop}
 use lib.Seq.{getD-set-other, getD-take, getD-drop, drop-set-add, take-set-lt, ext-getD}
 use borrow.Author.Tests.{le-leb}
 use Rattle.runlaws.specs.Bytes.{byteAt, number, floatAt, pauliAt, part}
-use Rattle.runlaws.specs.Field.{Field, bodyLength, whole, fieldAt}
+use Rattle.runlaws.specs.Field.{Field, bodyLength, isWhole, fieldAt}
 use Rattle.runlaws.specs.Reading.{Cursor, Read, readAt}
 use Rattle.runlaws.specs.Reading.Read.{stepRead, endRead, refusedRead}
 use Rattle.runlaws.specs.Run.{ended, follow, walk}
@@ -43,8 +43,8 @@ withByte i v f = record { tag = f .tag; body = set (f .body) i v; next = f .next
 module _ (s s' : List ℕ) (at : ℕ) (long : length s' ≡ length s) where
   -- the same head, and b for a body
   field-body : (b : List ℕ) → byteAt s' at ≡ byteAt s at → bodyLength s' at ≡ bodyLength s at → part (at + 3) (bodyLength s at) s' ≡ b
-      → fieldAt s' at ≡ cond (whole s at) (some (record { tag = byteAt s at; body = b; next = at + 3 + bodyLength s at })) none
-  unfolding fieldAt whole
+      → fieldAt s' at ≡ cond (isWhole s at) (some (record { tag = byteAt s at; body = b; next = at + 3 + bodyLength s at })) none
+  unfolding fieldAt isWhole
   field-body b tag size body = rw (size, long, tag, body)
 
   -- the bytes of the field that stands at `at`, or would stand there, are the same
@@ -71,7 +71,7 @@ module _ (s s' : List ℕ) (at : ℕ) (long : length s' ≡ length s) where
 
 -- a byte of the body that is set
 pub field-set : (s : List ℕ) (at i v : ℕ) (f : Field) → fieldAt s at ≡ some f → i < length (f .body) → fieldAt (set s (at + 3 + i) v) at ≡ some (withByte i v f)
-unfolding whole
+unfolding isWhole
 field-set s at i v f e h =
     let w = field-whole s at f e in
     let k : ℕ = bodyLength s at in

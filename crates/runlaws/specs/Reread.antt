@@ -9,8 +9,8 @@ use lib.ListN.{length, length-set}
 use lib.Seq.{getD-set-same}
 use Rattle.answers.specs.Answer.Answer.{accepted}
 use Rattle.paulilaws.specs.Pauli.{Pauli}
-use Rattle.framelaws.specs.Step.{Step, widthAfter}
-use Rattle.framelaws.specs.Step.Step.{rotation, projection}
+use Rattle.amplitudelaws.specs.Step.{Step, widthAfter}
+use Rattle.amplitudelaws.specs.Step.Step.{rotation, projection}
 use Rattle.framelaws.specs.Rows.{stepRow}
 use Rattle.framelaws.specs.Carrying.{flipped, carriedStep, passed, carriedSteps}
 use Rattle.framelaws.specs.Carried.{row-carried}

@@ -8,7 +8,7 @@ use lib.Ieee.{Float}
 use lib.ListN.{length}
 use Rattle.answers.specs.Answer.{Answer}
 use Rattle.answers.specs.Answer.Answer.{accepted, refused, refusedAt}
-use Rattle.framelaws.specs.Step.{Step}
+use Rattle.amplitudelaws.specs.Step.{Step}
 use Rattle.runlaws.specs.Bytes.{byteAt}
 use Rattle.runlaws.specs.Field.{Field, fieldAt}
 use Rattle.runlaws.specs.Reading.{Cursor, Read, isField, readAt}

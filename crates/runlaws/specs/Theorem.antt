@@ -8,7 +8,7 @@ use mathlib.Core.Option.{some}
 use Prim.Native.Nat.{ℕ, _^_, _≤_, _<_}
 use native.Mathlib.Nat.{le-trans}
 use native.Mathlib.Omega.{arith}
-use lib.Dec.{T, leb}
+use lib.Dec.{T}
 use lib.Ieee.{Float}
 use lib.ListN.{length, take, drop}
 use lib.Seq.{take-at}
@@ -21,7 +21,7 @@ use Rattle.paulilaws.specs.Fitting.{Fitting, fitting-fits}
 use Rattle.amplitudelaws.specs.Binary.{binary}
 use Rattle.amplitudelaws.specs.Correction.{corrected}
 use Rattle.amplitudelaws.specs.Rows.{correctionRow, widthRow, roomRow, widestKernel}
-use Rattle.amplitudelaws.specs.State.{State, point, room}
+use Rattle.amplitudelaws.specs.State.{State, point, roomFor, room}
 use Rattle.amplitudelaws.specs.Steps.{correction}
 use Rattle.framelaws.specs.Allowed.{FiniteSteps}
 use Rattle.framelaws.specs.Carried.{survey-carried}
@@ -30,12 +30,12 @@ use Rattle.framelaws.specs.Fitted.{fitting-end}
 use Rattle.framelaws.specs.Kept.{written-lengths, ran-sizes, room-kept, room-under}
 use Rattle.framelaws.specs.List.{frame-over-steps}
 use Rattle.framelaws.specs.Memory.{Memory, ran}
-use Rattle.framelaws.specs.Step.{lastWidth}
+use Rattle.amplitudelaws.specs.Step.{lastWidth}
 use Rattle.framelaws.specs.Survey.{Survey, survey}
 use Rattle.framelaws.specs.Surveyed.{survey-width, survey-greatest, survey-greatest-last}
 use Rattle.runlaws.specs.Field.{fieldAt}
 use Rattle.runlaws.specs.Run.{Run, runOf, startWidth}
-use Rattle.runlaws.specs.Calls.{Ending, endingOf, surveyOf, scratchRoom, memoryRow, running, carryingRow, carriedRun, carrying}
+use Rattle.runlaws.specs.Calls.{Ending, endingOf, surveyOf, memoryRow, running, carryingRow, carriedRun, carrying}
 use Rattle.runlaws.specs.Outcomes.{room-both, running-done, running-answers, carrying-passed, carrying-done}
 use Rattle.runlaws.specs.Reread.{carried-length, reread}
 use Rattle.runlaws.specs.WholeRun.{run-allowed}
@@ -72,7 +72,7 @@ pub record Frame (limit : ℕ) (s t : List ℕ) (Q end : Pauli) (m u : Memory) (
 
 -- ---- what the rows of the calls let pass
 
-room-row : (v : Survey) (m : Memory) → room (v .greatest) (m .state) ≡ true → scratchRoom (v .scratch) (m .scratch) ≡ true → memoryRow v m ≡ 0
+room-row : (v : Survey) (m : Memory) → room (v .greatest) (m .state) ≡ true → roomFor (v .scratch) (m .scratch) ≡ true → memoryRow v m ≡ 0
 unfolding memoryRow roomRow row
 room-row v m a b = rw (a, b)
 

@@ -10,13 +10,14 @@ use lib.ListN.{length}
 use borrow.Author.Tests.{ltb-false}
 use Rattle.answers.specs.Answer.{Answer}
 use Rattle.answers.specs.Answer.Answer.{accepted, refusedAt}
-use Rattle.framelaws.specs.Step.{Step}
+use Rattle.answers.specs.Row.{refusedAt-accepted}
+use Rattle.amplitudelaws.specs.Step.{Step}
 use Rattle.framelaws.specs.Allowed.{Allowed}
 use Rattle.runlaws.specs.Reading.{Cursor, Read, readField, readAt}
 use Rattle.runlaws.specs.Reading.Read.{stepRead, endRead, refusedRead}
 use Rattle.runlaws.specs.Run.{mapped, ended, follow, walk}
 use Rattle.runlaws.specs.Fields.{field-past, step-read, size-ge}
-use Rattle.runlaws.specs.Mapped.{no-answer, mapped-accepted}
+use Rattle.runlaws.specs.Mapped.{mapped-accepted}
 
 -- with fuel for what is left it goes by the read at its cursor
 pub walk-by : (limit fuel : ℕ) (s : List ℕ) (c : Cursor) → length s ≤ c .at + fuel → walk limit fuel s c ≡ follow s (readAt limit s c) (walk limit (fuel - 1) s)
@@ -26,12 +27,12 @@ walk-by limit (suc fuel) s c h = let less : suc fuel - 1 ≡ fuel = omega arith 
 
 -- a run's end field stands last
 module _ (s : List ℕ) (c : Cursor) where
-  pub ended-accepted : (ts : List (Step Float)) → ended s c ≡ accepted ts → (length s ≤ c .at) × (ts ≡ [])
+  ended-accepted : (ts : List (Step Float)) → ended s c ≡ accepted ts → (length s ≤ c .at) × (ts ≡ [])
   unfolding ended
   ended-accepted ts e = go (ltb (c .at) (length s)) refl e
     where
       go : (q : Bool) → ltb (c .at) (length s) ≡ q → cond q (refusedAt 14 (c .at)) (accepted []) ≡ accepted ts → (length s ≤ c .at) × (ts ≡ [])
-      go true h e = absurd (no-answer e)
+      go true h e = absurd (refusedAt-accepted e)
       go false h e = (ltb-false (c .at) (length s) h, cc)
 
 -- an accepted walk whose first step is t
@@ -59,7 +60,7 @@ module _ (limit fuel : ℕ) (s : List ℕ) (c : Cursor) (enough : length s ≤ c
             walked = m .was ∙ ap accepted tail;
           }
       go (endRead d) h e = absurd (let n = ended-accepted s d (t ∷ ts) e .1 in let z : _≡_ {A = ℕ} 0 1 = cc in omega arith)
-      go (refusedRead n at) h e = absurd (no-answer e)
+      go (refusedRead n at) h e = absurd (refusedAt-accepted e)
 
 -- the steps of an accepted walk are allowed
 pub walk-allowed : (limit fuel : ℕ) (s : List ℕ) (c : Cursor) (ts : List (Step Float)) → length s ≤ c .at + fuel → walk limit fuel s c ≡ accepted ts
@@ -83,13 +84,13 @@ left-outset limit s c h = record { fuel = length s; enough = omega arith; same =
 -- behind a step
 pub record Next (limit : ℕ) (s : List ℕ) (d : Cursor) (t : Step Float) (rest : Answer (List (Step Float))) : Type 0 where
   pub after : Answer (List (Step Float))
-  pub by : rest ≡ mapped (λ (ts : List (Step Float)). t ∷ ts) after
+  pub rest-is : rest ≡ mapped (λ (ts : List (Step Float)). t ∷ ts) after
   pub left : Left limit s d after
 
 -- behind a step of a run that is accepted
 pub record AcceptedNext (limit : ℕ) (s : List ℕ) (d : Cursor) (t : Step Float) (ts : List (Step Float)) : Type 0 where
   pub after : List (Step Float)
-  pub by : ts ≡ t ∷ after
+  pub rest-is : ts ≡ t ∷ after
   pub left : Left limit s d (accepted after)
 
 module _ {limit : ℕ} {s : List ℕ} {c : Cursor} where
@@ -103,7 +104,7 @@ module _ {limit : ℕ} {s : List ℕ} {c : Cursor} where
         let r = step-read limit s c d t e in
         record {
           after = walk limit (l .fuel - 1) s d;
-          by = by-read (stepRead t d) e;
+          rest-is = by-read (stepRead t d) e;
           left = record {
             fuel = l .fuel - 1;
             enough = omega (arith, r .next, size-ge t, l .enough, l .inside);
@@ -124,11 +125,11 @@ module _ {limit : ℕ} {s : List ℕ} {c : Cursor} where
     pub accepted-step : (t : Step Float) (d : Cursor) → readAt limit s c ≡ stepRead t d → AcceptedNext limit s d t ts
     accepted-step t d e =
         let k = left-step l t d e in
-        let m = mapped-accepted (λ (ts : List (Step Float)). t ∷ ts) (k .after) ts (sym (k .by)) in
-        record { after = m .value; by = m .is; left = subst (Left limit s d) (m .was) (k .left) }
+        let m = mapped-accepted (λ (ts : List (Step Float)). t ∷ ts) (k .after) ts (sym (k .rest-is)) in
+        record { after = m .value; rest-is = m .is; left = subst (Left limit s d) (m .was) (k .left) }
 
     pub accepted-end : (d : Cursor) → readAt limit s c ≡ endRead d → ts ≡ []
     accepted-end d e = ended-accepted s d ts (sym (left-end l d e)) .1
 
     pub accepted-refused : (n at : ℕ) → readAt limit s c ≡ refusedRead n at → ⊥
-    accepted-refused n at e = no-answer (sym (left-refused l n at e))
+    accepted-refused n at e = refusedAt-accepted (sym (left-refused l n at e))

@@ -10,15 +10,16 @@ use lib.Ieee.{Float}
 use lib.ListN.{length}
 use borrow.Author.Tests.{ltb-false, leb-true, lt-ltb, le-ltb}
 use Rattle.answers.specs.Answer.Answer.{accepted, refusedAt}
+use Rattle.answers.specs.Row.{refusedAt-accepted}
 use Rattle.paulilaws.specs.Fitting.{both-left, both-right}
-use Rattle.framelaws.specs.Step.{Step}
+use Rattle.amplitudelaws.specs.Step.{Step}
 use Rattle.framelaws.specs.Allowed.{Allowed}
 use Rattle.runlaws.specs.Bytes.{byteAt}
 use Rattle.runlaws.specs.Field.{Field, bodyLength, fieldAt}
 use Rattle.runlaws.specs.Reading.{Cursor, isField}
 use Rattle.runlaws.specs.Run.{Run, mostBytes, mapped, walk, startWidth, begun, runOf}
 use Rattle.runlaws.specs.Fields.{by-test, field-whole, has-size}
-use Rattle.runlaws.specs.Mapped.{no-answer, mapped-accepted}
+use Rattle.runlaws.specs.Mapped.{mapped-accepted}
 use Rattle.runlaws.specs.Walk.{walk-allowed}
 
 -- a run that has a start field
@@ -78,7 +79,7 @@ module _ (limit : ℕ) (s : List ℕ) where
 module _ (limit : ℕ) (s : List ℕ) (R : Run) where
   begun-allowed : length s ≤ mostBytes → (o : Option ℕ) → startWidth limit (fieldAt s 0) ≡ o → begun limit s o ≡ accepted R → ReadRun limit s R
   unfolding begun
-  begun-allowed short none h e = absurd (no-answer e)
+  begun-allowed short none h e = absurd (refusedAt-accepted e)
   begun-allowed short (some n) h e =
       let from : Cursor = record { at = 4; width = n } in
       let m = mapped-accepted (λ (ts : List (Step Float)). record { width = n; steps = ts }) (walk limit (length s) s from) R e in
@@ -97,5 +98,5 @@ module _ (limit : ℕ) (s : List ℕ) (R : Run) where
   run-allowed e = go (ltb mostBytes (length s)) refl e
     where
       go : (q : Bool) → ltb mostBytes (length s) ≡ q → cond q (refusedAt 14 0) (begun limit s (startWidth limit (fieldAt s 0))) ≡ accepted R → ReadRun limit s R
-      go true h e = absurd (no-answer e)
+      go true h e = absurd (refusedAt-accepted e)
       go false h e = begun-allowed (ltb-false mostBytes (length s) h) (startWidth limit (fieldAt s 0)) refl e

@@ -1,12 +1,10 @@
 -- What running a run answers and leaves, by what its check says and by row 13. Assumes nothing.
 use mathlib.Core.Path.{_≡_, refl, sym, ap}
 use mathlib.Core.List.{List}
-use Prim.Native.Nat.{ℕ, _≤_}
-use native.Mathlib.Omega.{arith}
+use Prim.Native.Nat.{ℕ}
 use Rattle.answers.specs.Answer.{Answer}
 use Rattle.answers.specs.Answer.Answer.{accepted, refused, refusedAt}
 use Rattle.answers.specs.Row.{answered-none, refusing}
-use Rattle.amplitudelaws.specs.Rows.{widestPromotion}
 use Rattle.framelaws.specs.Survey.{Survey}
 use Rattle.framelaws.specs.Memory.{Memory, ran}
 use Rattle.runlaws.specs.Run.{runOf}
@@ -38,8 +36,8 @@ module _ (limit : ℕ) (s : List ℕ) (m : Memory) where
     runs-short r h ne = rw by-memory (refusing (memoryRow v m) (endingOf v) _ m r h ne)
 
     module _ (h : memoryRow v m ≡ 0) where
-      pub runs-ready : limit ≤ widestPromotion → ReadyRun limit s m
-      runs-ready narrow = record { narrow = narrow; run = checked .value; is = checked .was; row = rw (← checked .is) h }
+      pub runs-ready : ReadyRun limit s m
+      runs-ready = record { run = checked .value; is = checked .was; row = rw (← checked .is) h }
 
       pub runs-finished : {u : Memory} → u ≡ running limit s m .lent → Runs (accepted (endingOf v)) u
       unfolding byRow

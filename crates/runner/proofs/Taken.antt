@@ -1,23 +1,20 @@
 -- The kernel of a step that is ready is refused by no row, and so leaves what the step's definition says. Assumes nothing.
 use mathlib.Core.Path.{_≡_, refl, sym, ap, ap₂, _∙_, subst}
 use mathlib.Core.Bool.{Bool, true, false, cond, not, _&&_, _||_}
-use Prim.Native.Nat.{ℕ, suc, _-_, _^_, _<_}
-use native.Mathlib.Omega.{arith}
-use lib.Dec.{leb, ltb, eqb, lit<}
+use Prim.Native.Nat.{ℕ, suc, _-_, _^_}
+use lib.Dec.{leb, ltb, eqb}
 use lib.Ieee.{Float}
 use lib.Ieee.Scale.{finite}
-use borrow.Author.Tests.{leb-false, le-ltb}
-use Rattle.answers.specs.Row.{row, first, left, row-passed, first-passed, first-none, left-none}
-use Rattle.paulilaws.specs.Pauli.{Pauli, mostQubits}
-use Rattle.amplitudelaws.specs.Rows.{widestKernel, widestPromotion, widthRow, unitRow, rotationKernelRow, measurementRow, roomRow, rotationRow, promotedWidthRow, promotionRow, projectionRow, correctionRow}
-use Rattle.amplitudelaws.specs.State.{State, room}
+use Rattle.answers.specs.Row.{row, first, left, first-passed, first-none, left-none}
+use Rattle.paulilaws.specs.Pauli.{Pauli}
+use Rattle.amplitudelaws.specs.Rows.{widestKernel, widthRow, unitRow, rotationKernelRow, measurementRow, roomRow, rotationRow, promotedWidthRow, promotionRow, projectionRow, correctionRow}
+use Rattle.amplitudelaws.specs.State.{State, roomFor, room}
 use Rattle.amplitudelaws.specs.Steps as leaves
-use Rattle.framelaws.specs.Step.{Step, widthAfter}
-use Rattle.framelaws.specs.Step.Step.{rotation, promotion, projection, correction}
+use Rattle.amplitudelaws.specs.Step.{Step, widthAfter}
+use Rattle.amplitudelaws.specs.Step.Step.{rotation, promotion, projection, correction}
 use Rattle.framelaws.specs.Rows.{stepRow, rotationStepRow, promotionStepRow, projectionStepRow}
 use Rattle.framelaws.specs.Survey.{mixedAmplitudes}
 use Rattle.framelaws.specs.Memory.{Memory, stepped}
-use Rattle.runlaws.specs.Calls.{scratchRoom}
 use Rattle.runner.specs.Ready.{Ready}
 
 -- the rows of a call, 13 last
@@ -26,8 +23,8 @@ unfolding roomRow row
 with-room rows enough e h = first-none rows _ e ∙ rw h
 
 -- the room that a projection needs in the scratch
-scratch-enough : (diagonal : Bool) (k : ℕ) (S : State) → scratchRoom (cond diagonal 0 (2 ^ k)) S ≡ true → (diagonal || room k S) ≡ true
-unfolding scratchRoom room
+scratch-enough : (diagonal : Bool) (k : ℕ) (S : State) → roomFor (cond diagonal 0 (2 ^ k)) S ≡ true → (diagonal || room k S) ≡ true
+unfolding room
 scratch-enough true k S h = refl
 scratch-enough false k S h = h
 
@@ -41,13 +38,11 @@ module _ {n : ℕ} {m : Memory} where
       with-room (rotationKernelRow P c s) (room (P .n) (m .state)) (first-passed (rotationKernelRow P c s) (row (ltb 1 sign) 14 0) (r .row) .0) (rw (r .placed) (r .before))
 
   promotion-row : (c q : Float) → Ready n (promotion c q) m → promotionRow n c q (m .state) ≡ 0
-  unfolding promotionRow promotedWidthRow stepRow promotionStepRow widthAfter row first
+  unfolding promotionRow stepRow promotionStepRow widthAfter
   promotion-row c q r =
-      let rows = first-passed (unitRow c q) (row (leb (r .limit) n) 15 0) (r .row) in
-      let below : n < r .limit = leb-false (r .limit) n (row-passed (leb (r .limit) n) 15 0 (lit< tt) (rows .1) .0) in
-      let narrow = r .narrow in
-      rw (le-ltb mostQubits n (omega arith), le-ltb widestPromotion n (omega arith))
-      (with-room (unitRow c q) (room (suc n) (m .state)) (rows .0) (r .behind))
+      let rows = first-passed (promotedWidthRow n) (first (unitRow c q) (row (leb (r .limit) n) 15 0)) (r .row) in
+      let units = first-passed (unitRow c q) (row (leb (r .limit) n) 15 0) (rows .1) .0 in
+      first-none (promotedWidthRow n) _ (rows .0) ∙ with-room (unitRow c q) (room (suc n) (m .state)) units (r .behind)
 
   projection-row : (M : Pauli) (p v : ℕ) (invnorm : Float) → Ready n (projection M p v invnorm) m → projectionRow M p invnorm (m .state) (m .scratch) ≡ 0
   unfolding projectionRow stepRow projectionStepRow mixedAmplitudes

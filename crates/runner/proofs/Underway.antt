@@ -2,15 +2,14 @@
 use mathlib.Core.Path.{_≡_, sym, ap, ap₂, _∙_, subst}
 use mathlib.Core.List.{List, [], _∷_}
 use mathlib.Core.Option.{none, some, Option·some-injective, Option·none-ne-some}
-use Prim.Native.Nat.{ℕ, _<_, _-_, _≤_}
+use Prim.Native.Nat.{ℕ, _<_, _-_}
 use native.Mathlib.Omega.{arith}
 use lib.Ieee.{Float}
 use lib.ListN.{length}
 use types.Run.{OneOf}
 use denote.Enum.Declared.{tagOf}
 use Rattle.answers.specs.Answer.Answer.{accepted}
-use Rattle.amplitudelaws.specs.Rows.{widestPromotion}
-use Rattle.framelaws.specs.Step.{Step}
+use Rattle.amplitudelaws.specs.Step.{Step}
 use Rattle.framelaws.specs.Survey.{survey}
 use Rattle.framelaws.specs.Memory.{Memory, stepped, ran}
 use Rattle.framelaws.specs.Kept.{SameSizes, ran-sizes}
@@ -65,14 +64,13 @@ module _ {limit : ℕ} {s : List ℕ} {m₀ : Memory} where
 
   module _ {c : Cursor} {m : Memory} (u : Underway limit s m₀ c m) where
     module _ (t : Step Float) (d : Cursor) (e : readAt limit s c ≡ stepRead t d) where
-      pub underway-ready : limit ≤ widestPromotion → Ready (c .width) t m
-      underway-ready narrow =
+      pub underway-ready : Ready (c .width) t m
+      underway-ready =
           let read = step-read limit s c d t e in
           let next = accepted-step (u .left) t d e in
-          let rooms = subst (λ (ts : List (Step Float)). Rooms (survey (c .width) ts) m) (next .by) (u .rooms) in
+          let rooms = subst (λ (ts : List (Step Float)). Rooms (survey (c .width) ts) m) (next .rest-is) (u .rooms) in
           record {
             limit = limit;
-            narrow = narrow;
             placed = read .placed;
             row = read .row;
             before = rooms-before (c .width) t (next .after) m rooms;
@@ -85,12 +83,12 @@ module _ {limit : ℕ} {s : List ℕ} {m₀ : Memory} where
       underway-step m' done =
           let read = step-read limit s c d t e in
           let next = accepted-step (u .left) t d e in
-          let rooms = subst (λ (ts : List (Step Float)). Rooms (survey (c .width) ts) m) (next .by) (u .rooms) in
+          let rooms = subst (λ (ts : List (Step Float)). Rooms (survey (c .width) ts) m) (next .rest-is) (u .rooms) in
           record {
             steps = next .after;
             left = next .left;
             same =
-                ap₂ (λ (n : ℕ) (u : Memory). ran n (next .after) u) (read .width) done ∙ ap (λ (ts : List (Step Float)). ran (c .width) ts m) (sym (next .by)) ∙ u .same;
+                ap₂ (λ (n : ℕ) (u : Memory). ran n (next .after) u) (read .width) done ∙ ap (λ (ts : List (Step Float)). ran (c .width) ts m) (sym (next .rest-is)) ∙ u .same;
             rooms = rooms-rest (c .width) t (next .after) m rooms (read .width) done;
           }
 

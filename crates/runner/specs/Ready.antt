@@ -2,32 +2,29 @@
 use mathlib.Core.Path.{_≡_}
 use mathlib.Core.Bool.{true}
 use mathlib.Core.List.{List}
-use Prim.Native.Nat.{ℕ, _≤_}
+use Prim.Native.Nat.{ℕ}
 use lib.Ieee.{Float}
 use Rattle.answers.specs.Answer.Answer.{accepted}
-use Rattle.amplitudelaws.specs.Rows.{widestPromotion}
-use Rattle.amplitudelaws.specs.State.{room}
-use Rattle.framelaws.specs.Step.{Step, widthAfter}
+use Rattle.amplitudelaws.specs.State.{roomFor, room}
+use Rattle.amplitudelaws.specs.Step.{Step, widthAfter}
 use Rattle.framelaws.specs.Rows.{stepRow}
 use Rattle.framelaws.specs.Survey.{mixedAmplitudes}
 use Rattle.framelaws.specs.Memory.{Memory}
 use Rattle.framelaws.specs.Allowed.{Placed}
 use Rattle.runlaws.specs.Run.{Run, runOf}
-use Rattle.runlaws.specs.Calls.{scratchRoom, surveyOf, memoryRow}
+use Rattle.runlaws.specs.Calls.{surveyOf, memoryRow}
 
--- a step at width n, under some limit that promotions reach
+-- a step at width n, under some limit
 pub record Ready (n : ℕ) (t : Step Float) (m : Memory) : Type 0 where
   pub limit : ℕ
-  pub narrow : limit ≤ widestPromotion
   pub placed : Placed n t
   pub row : stepRow limit n t ≡ 0
   pub before : room n (m .state) ≡ true
   pub behind : room (widthAfter n t) (m .state) ≡ true
-  pub scratch : scratchRoom (mixedAmplitudes n t) (m .scratch) ≡ true
+  pub scratch : roomFor (mixedAmplitudes n t) (m .scratch) ≡ true
 
 -- a whole run, row 13 passed
 pub record ReadyRun (limit : ℕ) (s : List ℕ) (m : Memory) : Type 0 where
-  pub narrow : limit ≤ widestPromotion
   pub run : Run
   pub is : runOf limit s ≡ accepted run
   pub row : memoryRow (surveyOf run) m ≡ 0

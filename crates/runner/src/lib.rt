@@ -2,19 +2,18 @@
 // that a refused run leaves all four buffers as they were.
 use checker::CheckAnswer;
 use checker::Survey;
-use reader::StartAnswer;
+use fields::StartAnswer;
 use steps::Cursor;
 use steps::Read;
 use steps::Step;
 ghost use mathlib.Core.Path.{_≡_};
 ghost use mathlib.Core.Bool.{_&&_};
-ghost use Prim.Native.Nat.{_≤_};
 ghost use Rattle.answers.specs.Answer.Answer.{accepted};
-ghost use Rattle.amplitudelaws.specs.Rows.{roomRow, widestPromotion};
-ghost use Rattle.amplitudelaws.specs.State.{stateOf, room};
+ghost use Rattle.amplitudelaws.specs.Rows.{roomRow};
+ghost use Rattle.amplitudelaws.specs.State.{stateOf, roomFor, room};
 ghost use Rattle.framelaws.specs.Memory.{memoryOf, stepped};
 ghost use Rattle.runlaws.specs.Run.{widestRun};
-ghost use Rattle.runlaws.specs.Calls.{checking, running, scratchRoom};
+ghost use Rattle.runlaws.specs.Calls.{checking, running};
 ghost use Rattle.steps.specs.Meant.{stepOf};
 ghost use Rattle.checker.specs.Told.{surveyMeant};
 ghost use Rattle.runner.specs.Told.{runTold};
@@ -40,7 +39,7 @@ pub fn run_contiguous(
     run_within(run, re, im, scratch_re, scratch_im, 12)
 }
 
-// Under any limit on the width that promotions reach.
+// Under any limit on the width.
 fn run_within(
     run: &[u8],
     re: &mut [f64],
@@ -49,7 +48,6 @@ fn run_within(
     scratch_im: &mut [f64],
     limit: usize,
 ) -> RunAnswer
-    requires { ⌜ limit ≤ widestPromotion ⌝ }
     ensures answer { λ r. ⌜ runTold r ≡ running limit (now (run .entry)) (memoryOf (now (re .entry)) (now (im .entry)) (now («scratch_re» .entry)) (now («scratch_im» .entry))) .answer ⌝ }
     ensures memory { λ _. ⌜ memoryOf (now (re .exit)) (now (im .exit)) (now («scratch_re» .exit)) (now («scratch_im» .exit)) ≡ running limit (now (run .entry)) (memoryOf (now (re .entry)) (now (im .entry)) (now («scratch_re» .entry)) (now («scratch_im» .entry))) .lent ⌝ }
 {
@@ -71,7 +69,7 @@ fn run_checked(
     limit: usize,
     survey: Survey,
 ) -> RunAnswer
-    requires { ⌜ (limit ≤ widestPromotion) × (checking limit (now run) ≡ accepted (surveyMeant survey)) ⌝ }
+    requires { ⌜ checking limit (now run) ≡ accepted (surveyMeant survey) ⌝ }
     ensures answer { λ r. ⌜ runTold r ≡ running limit (now (run .entry)) (memoryOf (now (re .entry)) (now (im .entry)) (now («scratch_re» .entry)) (now («scratch_im» .entry))) .answer ⌝ }
     ensures memory { λ _. ⌜ memoryOf (now (re .exit)) (now (im .exit)) (now («scratch_re» .exit)) (now («scratch_im» .exit)) ≡ running limit (now (run .entry)) (memoryOf (now (re .entry)) (now (im .entry)) (now («scratch_re» .entry)) (now («scratch_im» .entry))) .lent ⌝ }
 {
@@ -102,7 +100,7 @@ fn memory_row(
     greatest: usize,
     scratch: usize,
 ) -> u8
-    ensures { λ r. ⌜ r ≡ roomRow (room greatest (stateOf (now (re .entry)) (now (im .entry))) && scratchRoom scratch (stateOf (now («scratch_re» .entry)) (now («scratch_im» .entry)))) ⌝ }
+    ensures { λ r. ⌜ r ≡ roomRow (room greatest (stateOf (now (re .entry)) (now (im .entry))) && roomFor scratch (stateOf (now («scratch_re» .entry)) (now («scratch_im» .entry)))) ⌝ }
 {
     let states = rows::has_room(re, im, greatest);
     let mixtures = (scratch <= scratch_re.len()) & (scratch <= scratch_im.len());
@@ -121,7 +119,7 @@ fn run_steps(
     requires { ⌜ ReadyRun limit (now run) (memoryOf (now re) (now im) (now «scratch_re») (now «scratch_im»)) ⌝ }
     ensures { λ _. ⌜ memoryOf (now (re .exit)) (now (im .exit)) (now («scratch_re» .exit)) (now («scratch_im» .exit)) ≡ running limit (now (run .entry)) (memoryOf (now (re .entry)) (now (im .entry)) (now («scratch_re» .entry)) (now («scratch_im» .entry))) .lent ⌝ }
 {
-    let StartAnswer::Width(width) = reader::start(run, limit) else {
+    let StartAnswer::Width(width) = fields::start(run, limit) else {
         // Never: a run that was checked has its start field.
         return;
     };

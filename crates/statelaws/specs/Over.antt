@@ -31,7 +31,7 @@ module _ {A : Type 0} where
   over-at (suc n) f (x ∷ xs) (suc k) d h b = over-at n (λ j. f (suc j)) xs k d (le-of-suc-le-suc h) (le-of-suc-le-suc b)
 
   -- an entry past them
-  pub over-past : (n : ℕ) (f : ℕ → A) (l : List A) (k : ℕ) (d : A) → n ≤ k → getD (over n f l) k d ≡ getD l k d
+  over-past : (n : ℕ) (f : ℕ → A) (l : List A) (k : ℕ) (d : A) → n ≤ k → getD (over n f l) k d ≡ getD l k d
   unfolding over
   over-past zero f l k d h = refl
   over-past (suc n) f [] k d h = refl

@@ -25,7 +25,7 @@ module _ {A : Type 0} {d : A} {turn : ℕ → ℕ} {f : ℕ → A} {n : ℕ} {l�
   module _ {t : ℕ} {l : List A} (s : Swept d turn f n l₀ t l) where
     -- a turn that writes v at i
     module _ (i : ℕ) (v : A) (hi : i < n) (ti : turn i ≡ t) (only : (k : ℕ) → k < n → turn k ≡ t → k ≡ i) (ev : v ≡ f i) where
-      pub swept-one : Swept d turn f n l₀ (t + 1) (set l i v)
+      swept-one : Swept d turn f n l₀ (t + 1) (set l i v)
       swept-one =
           let bi : i < length l = omega (arith, s .room, s .len) in
           let off : (k : ℕ) → (turn k ≡ t → ⊥) → getD (set l i v) k d ≡ getD l k d = λ k ne. getD-set-other l i k v d (λ e. ne (ap turn e ∙ ti)) in record {

@@ -8,7 +8,7 @@ use lib.Ieee.{Float}
 use types.Run.{OneOf}
 use denote.Enum.Declared.{tagOf}
 use Rattle.answers.specs.Answer.Answer.{accepted}
-use Rattle.framelaws.specs.Step.{Step}
+use Rattle.amplitudelaws.specs.Step.{Step}
 use Rattle.runlaws.specs.Reading.{Cursor, readAt}
 use Rattle.runlaws.specs.Walk.{Left, accepted-end, accepted-refused}
 use Rattle.steps.specs.declared.Read as declared

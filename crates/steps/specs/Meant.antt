@@ -2,8 +2,8 @@
 use lib.Ieee.{Float}
 use Rattle.bitlaws.specs.Digit.{bitOf}
 use Rattle.activepauli.specs.Active.{activeOf}
-use Rattle.framelaws.specs.Step as list
-use Rattle.framelaws.specs.Step.Step.{rotation, promotion, projection, correction}
+use Rattle.amplitudelaws.specs.Step as list
+use Rattle.amplitudelaws.specs.Step.Step.{rotation, promotion, projection, correction}
 use Rattle.runlaws.specs.Reading as run
 use Rattle.runlaws.specs.Reading.Read.{stepRead, endRead, refusedRead}
 use Rattle.steps.specs.declared.Cursor.{Cursor}

@@ -14,8 +14,8 @@ use Rattle.runner.specs.Told.{runTold}
 use borrow.Author.Needs.{needs}
 use Rattle.bench.proofs.main.Statement.{statement}
 use Rattle.bench.proofs.main.Tie as tie
-use Rattle.bench.proofs.listing.refused.Reads as refused-reads
-use Rattle.bench.proofs.listing.state.Reads as state-reads
+use Rattle.bench.proofs.print.refused.Reads as refused-reads
+use Rattle.bench.proofs.print.state.Reads as state-reads
 use Rattle.io.proofs.read_full.Reads as read-full-reads
 use Rattle.runner.proofs.run_contiguous.Reads as run-contiguous-reads
 

@@ -1,9 +1,9 @@
 use mathlib.Core.Path.{_≡_, sym, ap, _∙_}
 use native.Mathlib.Omega.{arith}
 use Rattle.activepauli.specs.Active.{activeOf}
-use Rattle.reader.specs.Told.{startTold}
+use Rattle.fields.proofs.Started.{started, unstarted}
 use Rattle.checker.specs.Told.{checkTold}
-use Rattle.carrier.proofs.Answered.{unstarted, run-refused, row-refused, ready, done}
+use Rattle.carrier.proofs.Answered.{no-start, run-refused, row-refused, ready, done}
 use Rattle.runlaws.specs.Outcomes.{carrying-passed}
 use borrow.Author.Needs.{needs}
 use Rattle.carrier.proofs.carry_within.Statement.{statement}
@@ -36,13 +36,13 @@ enum-told-2 c = search needs
 
 returns-2 : tie.Need-returns-2
 returns-2 c =
-    let started = c .before .before in
-    let told = started .before in
+    let asked = c .before .before in
+    let told = asked .before in
     let checked = told .before .before in
     let a = checked .before .before .before .args in
     absurd
-    (unstarted (a .limit) (a .run .now) (ap checkTold (sym (told .enum-told .given .1)) ∙ checked .check-within .ensures)
-    (ap startTold (sym (c .enum-told2 .given .1)) ∙ started .start .ensures))
+    (no-start (a .limit) (a .run .now) (ap checkTold (sym (told .enum-told .given .1)) ∙ checked .check-within .ensures)
+    (unstarted (asked .start .ensures) (c .enum-told2 .given .1)))
 
 carrying-row-requires : tie.Need-carrying-row-requires
 carrying-row-requires c κs = search needs
@@ -50,12 +50,12 @@ carrying-row-requires c κs = search needs
 returns-3 : tie.Need-returns-3
 returns-3 c =
     let width = c .before .before .before in
-    let started = width .before .before in
-    let told = started .before in
+    let asked = width .before .before in
+    let told = asked .before in
     let checked = told .before .before in
     let a = checked .before .before .before .args in
     row-refused (a .limit) (a .run .now) (activeOf (a .pauli)) (a .out .now) (ap checkTold (sym (told .enum-told .given .1)) ∙ checked .check-within .ensures)
-    (ap startTold (sym (width .width .given .1)) ∙ started .start .ensures) (c .before .carrying-row .ensures) (λ none. omega (arith, c .if1 .taken))
+    (started (asked .start .ensures) (width .width .given .1)) (c .before .carrying-row .ensures) (λ none. omega (arith, c .if1 .taken))
 
 copy-requires : tie.Need-copy-requires
 copy-requires c κs =
@@ -67,13 +67,13 @@ carry-steps-requires c κs =
     let copied = c .before .before .before in
     let row = copied .before .before .before in
     let width = row .before .before in
-    let started = width .before .before in
-    let told = started .before in
+    let asked = width .before .before in
+    let told = asked .before in
     let checked = told .before .before in
     let start = checked .before .before .before in
     let a = start .args in
     ready (a .limit) (a .run .now) (activeOf (a .pauli)) (a .out .now) (ap checkTold (sym (told .enum-told .given .1)) ∙ checked .check-within .ensures)
-    (ap startTold (sym (width .width .given .1)) ∙ started .start .ensures)
+    (started (asked .start .ensures) (width .width .given .1))
     (row .carrying-row .ensures) (omega (arith, copied .before .before .if1 .left)) (copied .copy .ensures .1) (start .pre)
 
 same-length : tie.Need-same-length
@@ -85,13 +85,13 @@ returns-4 c =
     let copied = carried .before .before .before .before in
     let row = copied .before .before .before in
     let width = row .before .before in
-    let started = width .before .before in
-    let told = started .before in
+    let asked = width .before .before in
+    let told = asked .before in
     let checked = told .before .before in
     let start = checked .before .before .before in
     let a = start .args in
     done (a .limit) (a .run .now) (activeOf (a .pauli)) (a .out .now) (ap checkTold (sym (told .enum-told .given .1)) ∙ checked .check-within .ensures)
-    (ap startTold (sym (width .width .given .1)) ∙ started .start .ensures)
+    (started (asked .start .ensures) (width .width .given .1))
     (row .carrying-row .ensures) (omega (arith, copied .before .before .if1 .left)) (copied .copy .ensures .1) _ _
     (carried .carry-steps .ensures .0) (carried .carry-steps .ensures .1)
 

@@ -7,14 +7,14 @@ use lib.Ieee.{Float}
 use lib.ListN.{length}
 use borrow.Author.Needs.{needs}
 use Rattle.answers.specs.Answer.Answer.{refusedAt}
-use Rattle.framelaws.specs.Step.{Step}
+use Rattle.amplitudelaws.specs.Step.{Step}
 use Rattle.framelaws.specs.Survey.{survey}
 use Rattle.runlaws.specs.Calls.{surveyOf, checking}
 use Rattle.runlaws.specs.Field.{fieldAt}
 use Rattle.runlaws.specs.Run.{Run, mostBytes, mapped, walk, startWidth, runOf}
 use Rattle.runlaws.specs.Mapped.{mapped-mapped}
 use Rattle.runlaws.specs.WholeRun.{start-read, run-long, run-unbegun, run-begun}
-use Rattle.reader.specs.Told.{startTold}
+use Rattle.fields.proofs.Started.{started, unstarted}
 use Rattle.checker.proofs.check_within.Statement.{statement}
 use Rattle.checker.proofs.check_within.Tie as tie
 
@@ -45,17 +45,17 @@ enum-told c = search needs
 returns-2 : tie.Need-returns-2
 returns-2 c =
     let r = c .before .before in
-    unbegun _ _ (run-unbegun _ _ (r .before .if1 .left) (sym (r .start .ensures) ∙ ap startTold (c .enum-told .given .1)))
+    unbegun _ _ (run-unbegun _ _ (r .before .if1 .left) (unstarted (r .start .ensures) (c .enum-told .given .1)))
 
 survey-steps-requires : tie.Need-survey-steps-requires
 survey-steps-requires c κs =
     let r = c .before .before .before in
-    (start-read _ _ _ (sym (r .start .ensures) ∙ ap startTold (c .before .width .given .1)) .begins, r .before .if1 .left)
+    (start-read _ _ _ (started (r .start .ensures) (c .before .width .given .1)) .begins, r .before .if1 .left)
 
 returns-3 : tie.Need-returns-3
 returns-3 c =
     let r = c .before .before .before .before in
-    c .survey-steps .ensures ∙ begun _ _ _ (r .before .if1 .left) (sym (r .start .ensures) ∙ ap startTold (c .before .before .width .given .1))
+    c .survey-steps .ensures ∙ begun _ _ _ (r .before .if1 .left) (started (r .start .ensures) (c .before .before .width .given .1))
 
 pub check-within-spec : {M : Type 1} → statement M
 check-within-spec =

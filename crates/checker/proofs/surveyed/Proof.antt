@@ -3,7 +3,7 @@ use mathlib.Core.Path.{_≡_}
 use Prim.Native.Nat.{ℕ, _+_, max}
 use lib.Ieee.{Float}
 use borrow.Author.Needs.{needs}
-use Rattle.framelaws.specs.Step.{Step, widthAfter}
+use Rattle.amplitudelaws.specs.Step.{Step, widthAfter}
 use Rattle.framelaws.specs.Survey.{Survey, mixedAmplitudes, surveyed}
 use Rattle.checker.proofs.surveyed.Statement.{statement}
 use Rattle.checker.proofs.surveyed.Tie as tie

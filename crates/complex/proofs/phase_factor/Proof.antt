@@ -1,5 +1,5 @@
 use mathlib.Core.Path.{_≡_}
-use Prim.Native.Nat.{ℕ, suc, _-_}
+use Prim.Native.Nat.{ℕ, _%_}
 use native.Mathlib.Omega.{arith}
 use Rattle.amplitudelaws.specs.Arithmetic.{power}
 use Rattle.complex.proofs.phase_factor.Statement.{statement}
@@ -21,8 +21,8 @@ returns-4 : tie.Need-returns-4
 unfolding power
 returns-4 c =
     let k : ℕ = c .before .before .before .args .phase in
-    let over : k ≡ suc (suc (suc (k - 3))) = omega arith in
-    rw over
+    let three : k % 4 ≡ 3 = omega arith in
+    rw three
 
 pub phase-factor-spec : {M : Type 1} → statement M
 phase-factor-spec = tie.close (tie.spec returns returns-2 returns-3 returns-4)

@@ -1,5 +1,5 @@
 use mathlib.Core.Path.{_≡_}
-use Prim.Native.Nat.{ℕ, suc, _-_}
+use Prim.Native.Nat.{ℕ, _%_}
 use native.Mathlib.Omega.{arith}
 use Rattle.amplitudelaws.specs.Arithmetic.{quarters}
 use Rattle.complex.proofs.quarters.Statement.{statement}
@@ -21,8 +21,8 @@ returns-4 : tie.Need-returns-4
 unfolding quarters
 returns-4 c =
     let e : ℕ = c .before .before .before .before .args .exponent in
-    let over : e ≡ suc (suc (suc (e - 3))) = omega arith in
-    rw over
+    let three : e % 4 ≡ 3 = omega arith in
+    rw three
 
 pub quarters-spec : {M : Type 1} → statement M
 quarters-spec = tie.close (tie.spec returns returns-2 returns-3 returns-4)

@@ -1,3 +1,6 @@
+use mathlib.Core.Path.{_≡_}
+use Prim.Native.Nat.{_%_}
+use native.Mathlib.Omega.{arith}
 use Rattle.kernels.specs.Kernel.{actionOf}
 use Rattle.bitlaws.specs.Parity.{overlap}
 use borrow.Author.Needs.{needs}
@@ -15,7 +18,11 @@ is-odd-popcount-requires c κs = search needs
 
 returns : tie.Need-returns
 unfolding actionOf overlap
-returns c = rw (c .before .before .negated .ensures, c .before .before .before .phase-factor .ensures, c .is-odd-popcount .ensures)
+returns c =
+    let factored = c .before .before .before in
+    let start = factored .before in
+    let phase : start .args .pauli .phase % 4 ≡ start .args .pauli .phase = omega (arith, start .pre) in
+    rw (c .before .before .negated .ensures, factored .phase-factor .ensures, phase, c .is-odd-popcount .ensures)
 
 pub action-spec : {M : Type 1} → statement M
 action-spec =

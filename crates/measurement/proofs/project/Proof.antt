@@ -6,7 +6,7 @@ use lib.Ieee.{Float, nan}
 use Rattle.statelaws.specs.Over.{length-over, over-at, over-ext}
 use Rattle.amplitudelaws.specs.Binary.{Point}
 use Rattle.amplitudelaws.specs.State.{State, stateOf, point, written}
-use Rattle.amplitudelaws.specs.Sweeping.{state}
+use Rattle.amplitudelaws.specs.Sweeping.{state-same}
 use Rattle.kernels.specs.Kernel.{MeasurementKernel}
 use Rattle.measurement.specs.Measured.{kernelProjected, kernelScratch, Holding}
 use Rattle.measurement.proofs.Leaving.{holding-half}
@@ -25,7 +25,7 @@ module _ (n : ℕ) (F : ℕ → Point) (T T′ : State) (e : T′ ≡ written n 
   unfolding written point
   copied S =
       ap (λ (U : State). written n (point U) S) e
-      ∙ state
+      ∙ state-same
       (over-ext (2 ^ n) _ (λ b. F b .re) (S .re) (λ k b. over-at (2 ^ n) (λ b. F b .re) (T .re) k nan b (omega (arith, h .re))))
       (over-ext (2 ^ n) _ (λ b. F b .im) (S .im) (λ k b. over-at (2 ^ n) (λ b. F b .im) (T .im) k nan b (omega (arith, h .im))))
 

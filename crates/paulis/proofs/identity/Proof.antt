@@ -1,6 +1,6 @@
 use mathlib.Core.Path.{refl}
 use Rattle.bitlaws.specs.Words.{words}
-use Rattle.bits.specs.Mask.{mask}
+use Rattle.masks.specs.Mask.{mask}
 use Rattle.paulis.proofs.identity.Statement.{statement}
 use Rattle.paulis.proofs.identity.Tie as tie
 

@@ -2,8 +2,8 @@ use mathlib.Core.Path.{sym, ap, _∙_}
 use Rattle.runlaws.specs.Field.{fieldAt}
 use Rattle.runlaws.specs.Reading.{readField, readAt}
 use Rattle.steps.specs.Meant.{cursorOf}
-use Rattle.reader.specs.Told.{headTold}
-use Rattle.reader.proofs.Fields.{field-of, field-none}
+use Rattle.fields.specs.Told.{headTold}
+use Rattle.fields.proofs.Fields.{field-of, field-none}
 use borrow.Author.Needs.{needs}
 use Rattle.reader.proofs.read.Statement.{statement}
 use Rattle.reader.proofs.read.Tie as tie
@@ -21,7 +21,7 @@ returns : tie.Need-returns
 unfolding readAt readField
 returns c =
     let a = c .before .before .before .before .args in
-    let cut = field-none (fieldAt (a .run .now) (a .cursor .at)) (ap headTold (sym (c .enum-told .given .1)) ∙ c .before .before .field .ensures) in
+    let cut = field-none (a .cursor .at) (fieldAt (a .run .now) (a .cursor .at)) (ap (headTold (a .cursor .at)) (sym (c .enum-told .given .1)) ∙ c .before .before .field .ensures) in
     ap (readField (a .limit) (cursorOf (a .cursor))) (sym cut)
 
 body-requires : tie.Need-body-requires
@@ -35,7 +35,7 @@ unfolding readAt
 returns-2 c =
     let matched = c .before .before .before in
     let a = matched .before .before .before .before .args in
-    let whole = field-of (fieldAt (a .run .now) (a .cursor .at)) _ _ _ (ap headTold (sym (matched .tag .given .1)) ∙ matched .before .before .field .ensures) (c .before .body .ensures) in
+    let whole = field-of (a .cursor .at) (fieldAt (a .run .now) (a .cursor .at)) _ _ _ (ap (headTold (a .cursor .at)) (sym (matched .tag .given .1)) ∙ matched .before .before .field .ensures) (c .before .body .ensures) in
     c .read-field .ensures ∙ ap (readField (a .limit) (cursorOf (a .cursor))) (sym whole)
 
 pub read-spec : {M : Type 1} → statement M

@@ -1,4 +1,4 @@
-use Rattle.amplitudelaws.specs.State.{room}
+use Rattle.amplitudelaws.specs.State.{roomFor, room}
 use borrow.Author.Needs.{needs}
 use Rattle.rows.proofs.has_room.Statement.{statement}
 use Rattle.rows.proofs.has_room.Tie as tie
@@ -10,7 +10,7 @@ is-enough-requires-2 : tie.Need-is-enough-requires-2
 is-enough-requires-2 c κs = search needs
 
 returns : tie.Need-returns
-unfolding room
+unfolding roomFor room
 returns c = rw (c .before .is-enough .ensures, c .is-enough2 .ensures)
 
 pub has-room-spec : {M : Type 1} → statement M

@@ -1,4 +1,4 @@
-use Rattle.runlaws.specs.Calls.{scratchRoom}
+use Rattle.amplitudelaws.specs.State.{roomFor}
 use borrow.Author.Needs.{needs}
 use Rattle.runner.proofs.memory_row.Statement.{statement}
 use Rattle.runner.proofs.memory_row.Tie as tie
@@ -10,7 +10,7 @@ room-row-requires : tie.Need-room-row-requires
 room-row-requires c κs = search needs
 
 returns : tie.Need-returns
-unfolding scratchRoom
+unfolding roomFor
 returns c = rw (← c .before .has-room .ensures) (c .room-row .ensures)
 
 pub memory-row-spec : {M : Type 1} → statement M

@@ -28,7 +28,7 @@ returns c =
     let looked = c .before in
     let start = looked .before .before .before .before .before .before .before .before .before .before in
     let a = start .args in
-    runs-short (a .limit) (a .run .now) (memoryOf (a .re .now) (a .im .now) (a .scratch-re .now) (a .scratch-im .now)) (surveyMeant (a .survey)) (start .pre .1) _ (looked .memory-row .ensures) (c .if1 .taken)
+    runs-short (a .limit) (a .run .now) (memoryOf (a .re .now) (a .im .now) (a .scratch-re .now) (a .scratch-im .now)) (surveyMeant (a .survey)) (start .pre) _ (looked .memory-row .ensures) (c .if1 .taken)
 
 run-steps-requires : tie.Need-run-steps-requires
 unfolding memoryRow
@@ -37,7 +37,7 @@ run-steps-requires c κs =
     let looked = passed .before in
     let start = looked .before .before .before .before .before .before .before .before .before .before in
     let a = start .args in
-    runs-ready (a .limit) (a .run .now) (memoryOf (a .re .now) (a .im .now) (a .scratch-re .now) (a .scratch-im .now)) (surveyMeant (a .survey)) (start .pre .1) (sym (looked .memory-row .ensures) ∙ passed .if1 .left) (start .pre .0)
+    runs-ready (a .limit) (a .run .now) (memoryOf (a .re .now) (a .im .now) (a .scratch-re .now) (a .scratch-im .now)) (surveyMeant (a .survey)) (start .pre) (sym (looked .memory-row .ensures) ∙ passed .if1 .left)
 
 same-length-5 : tie.Need-same-length-5
 same-length-5 c = search needs
@@ -59,7 +59,7 @@ returns-2 c =
     let looked = passed .before in
     let start = looked .before .before .before .before .before .before .before .before .before .before in
     let a = start .args in
-    runs-finished (a .limit) (a .run .now) (memoryOf (a .re .now) (a .im .now) (a .scratch-re .now) (a .scratch-im .now)) (surveyMeant (a .survey)) (start .pre .1) (sym (looked .memory-row .ensures) ∙ passed .if1 .left) (called .run-steps .ensures)
+    runs-finished (a .limit) (a .run .now) (memoryOf (a .re .now) (a .im .now) (a .scratch-re .now) (a .scratch-im .now)) (surveyMeant (a .survey)) (start .pre) (sym (looked .memory-row .ensures) ∙ passed .if1 .left) (called .run-steps .ensures)
 
 pub run-checked-spec : {M : Type 1} → statement M
 run-checked-spec =

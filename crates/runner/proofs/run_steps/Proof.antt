@@ -7,7 +7,7 @@ use Rattle.runlaws.specs.Reading.{readAt}
 use Rattle.runlaws.specs.Reading.Read.{stepRead}
 use Rattle.runlaws.specs.Calls.{running}
 use Rattle.steps.specs.Meant.{cursorOf, stepOf, readTold}
-use Rattle.reader.specs.Told.{startTold}
+use Rattle.fields.proofs.Started.{started, unstarted}
 use Rattle.runner.proofs.Underway.{Underway, no-start, lent-sizes, underway-outset, underway-ready, underway-step, underway-less, underway-end}
 use borrow.Author.Needs.{needs}
 use Rattle.runner.proofs.run_steps.Statement.{statement}
@@ -32,13 +32,13 @@ enum-told c = search needs
 
 returns : tie.Need-returns Inv-loop μ-loop
 returns c =
-    let started = c .before .before in
-    absurd (no-start (started .before .before .before .before .before .before .pre) (sym (started .start .ensures) ∙ ap startTold (c .enum-told .given .1)))
+    let asked = c .before .before in
+    absurd (no-start (asked .before .before .before .before .before .before .pre) (unstarted (asked .start .ensures) (c .enum-told .given .1)))
 
 loop-holds : tie.Need-loop-holds Inv-loop μ-loop
 loop-holds c =
-    let started = c .before .before .before in
-    underway-outset (started .before .before .before .before .before .before .pre) _ (sym (started .start .ensures) ∙ ap startTold (c .before .width .given .1))
+    let asked = c .before .before .before in
+    underway-outset (asked .before .before .before .before .before .before .pre) _ (started (asked .start .ensures) (c .before .width .given .1))
 
 read-requires : tie.Need-read-requires Inv-loop μ-loop
 read-requires c κs = search needs
@@ -55,9 +55,7 @@ step-got c = sym (c .before .before .read .ensures) ∙ ap readTold (c .got .giv
 take-step-requires : tie.Need-take-step-requires Inv-loop μ-loop
 take-step-requires c κs =
     let got = c .before .before .before .before .before in
-    let at-loop = got .before .before .before in
-    let start = at-loop .before .before .before .before .before .before .before .before .before .before in
-    underway-ready (at-loop .loop .inv) _ _ (step-got got) (start .pre .narrow)
+    underway-ready (got .before .before .before .loop .inv) _ _ (step-got got)
 
 loop-less : tie.Need-loop-less Inv-loop μ-loop
 loop-less c =

@@ -19,7 +19,7 @@ run-checked-requires : tie.Need-run-checked-requires
 run-checked-requires c κs =
     let matched = c .before .before .before .before .before in
     let checked = matched .before .before in
-    (checked .before .before .before .before .before .before .pre, sym (checked .check-within .ensures) ∙ ap checkTold (matched .survey .given .1))
+    sym (checked .check-within .ensures) ∙ ap checkTold (matched .survey .given .1)
 
 returns : tie.Need-returns
 returns c =

@@ -1,10 +1,9 @@
 use mathlib.Core.Path.{sym, ap, _∙_, subst}
 use Prim.Native.Nat.{_*_}
 use Rattle.bitlaws.specs.Digit.{bitOf}
-use Rattle.paulilaws.specs.Fitting.{Fitting}
+use Rattle.paulilaws.specs.Fitting.{Fitting, product-fitting}
 use Rattle.paulilaws.specs.Frame.{raised}
 use Rattle.framelaws.specs.Carrying.{absorbed}
-use Rattle.framelaws.specs.Fitted.{product-fitting}
 use borrow.Author.Needs.{needs}
 use borrow.Author.Tests.{not-true, not-false}
 use Rattle.carrier.proofs.passing.absorbed.Statement.{statement}

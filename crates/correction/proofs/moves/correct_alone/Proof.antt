@@ -1,6 +1,6 @@
 use mathlib.Core.Path.{_≡_, sym, ap, ap₂, _∙_}
 use Prim.Native.Nat.{ℕ, _+_, _-_, _*_, _%_, _^_, _≤_}
-use native.Mathlib.Nat.{le-refl}
+use native.Mathlib.Nat.{le-refl, mod-mod}
 use native.Mathlib.Omega.{arith}
 use lib.Bits.{bitXor, xor-zero-r}
 use Rattle.bitlaws.specs.Digit.{one-shifted}
@@ -60,7 +60,7 @@ loop-again c =
       inv .0,
       omega arith,
       one-more (inv .2) _ _ (called .turn-at .ensures) (omega arith)
-          (ap₂ (quarters binary) (called .before .exponent .ensures) (one-ahead (inv .2) b (le-refl b))
+          (ap₂ (quarters binary) (ap (λ (e : ℕ). e % 4) (called .before .exponent .ensures) ∙ mod-mod _ 4) (one-ahead (inv .2) b (le-refl b))
           ∙ ap (λ (from : ℕ). quarters binary ((P .phase + 2 * overlap from (P .z)) % 4) (F from)) (sym same)),
     )
 

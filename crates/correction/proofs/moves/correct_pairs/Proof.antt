@@ -1,5 +1,6 @@
-use mathlib.Core.Path.{_≡_, ap}
+use mathlib.Core.Path.{_≡_, ap, _∙_}
 use Prim.Native.Nat.{ℕ, _+_, _-_, _*_, _%_, _^_, _≤_}
+use native.Mathlib.Nat.{mod-mod}
 use native.Mathlib.Omega.{arith}
 use lib.Bits.{bitXor}
 use Rattle.bitlaws.specs.Digit.{one-shifted}
@@ -76,8 +77,8 @@ loop-again c =
       turn-more (start .pre .1) (start .pre .0) (omega arith) (opened .open-bit .ensures)
           (λ (o : ℕ) (p q : Point). quarters binary ((P .phase + 2 * overlap o (P .z)) % 4) q) (inv .2) _ _ _
           (called .exchange .ensures)
-          (ap (λ (e : ℕ). quarters binary e (point S right)) (to-right .before .exponent .ensures))
-          (ap (λ (e : ℕ). quarters binary e (point S left)) (to-right .exponent2 .ensures)),
+          (ap (λ (e : ℕ). quarters binary e (point S right)) (ap (λ (e : ℕ). e % 4) (to-right .before .exponent .ensures) ∙ mod-mod _ 4))
+          (ap (λ (e : ℕ). quarters binary e (point S left)) (ap (λ (e : ℕ). e % 4) (to-right .exponent2 .ensures) ∙ mod-mod _ 4)),
     )
 
 same-length : tie.Need-same-length Inv-loop μ-loop

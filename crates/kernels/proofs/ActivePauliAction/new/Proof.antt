@@ -9,7 +9,7 @@ use mir.Val.{Fits}
 use mir.Syntax.{w64}
 use Rattle.answers.specs.Answer.Answer.{accepted}
 use Rattle.answers.specs.Row.{row, first, answered}
-use Rattle.bits.specs.MaskLaws.{Small}
+use Rattle.masks.specs.MaskLaws.{Small}
 use Rattle.paulilaws.specs.Pauli.{Pauli, hermitian, same}
 use Rattle.paulilaws.specs.Fitting.{Fitting}
 use Rattle.paulis.specs.Rows.{passed}
@@ -28,11 +28,13 @@ module _ (c : tie.Else2) where
   abbrev narrow : Pauli
   narrow = record { n = given .nqubits; k = given .phase; x = getD (given .x) 0 0; z = getD (given .z) 0 0 }
 
+  fit : Fitting (pauliOf given)
+  fit = passed (pauliOf given) (c .before .before .before .is-pauli .ensures) (c .before .before .if1 .left)
+
   whole : narrow ≡ pauliOf given
   whole =
       let small-x : Small (given .x) = λ i. (let f : Fits w64 (getD (given .x) i 0) = search needs in f .fits) in
       let small-z : Small (given .z) = λ i. (let f : Fits w64 (getD (given .z) i 0) = search needs in f .fits) in
-      let fit : Fitting (pauliOf given) = passed (pauliOf given) (c .before .before .before .is-pauli .ensures) (c .before .before .if1 .left) in
       same refl refl (one-word (given .x) (given .nqubits) small-x (omega arith) (fit .xs)) (one-word (given .z) (given .nqubits) small-z (omega arith) (fit .zs))
 
   last-row : (t : Bool) → t ≡ hermitian narrow → actionRow (pauliOf given) ≡ row (not t) 7 0
@@ -66,7 +68,7 @@ unfolding answered row
 returns-3 c = rw (last-row (c .before .before .before .before) (c .before .is-hermitian .result) (c .before .is-hermitian .ensures), c .if3 .taken)
 
 action-requires : tie.Need-action-requires
-action-requires c κs = search needs
+action-requires c κs = fit (c .before .before .before .before) .phase
 
 returns-4 : tie.Need-returns-4
 unfolding answered row

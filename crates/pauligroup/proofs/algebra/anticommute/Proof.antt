@@ -1,6 +1,6 @@
 use lib.Bits.{bitAnd}
 use lib.Count.{ones}
-use Rattle.bits.specs.Mask.{mask}
+use Rattle.masks.specs.Mask.{mask}
 use mathlib.Core.Path.{ap, ap₂, _∙_}
 use Prim.Native.Nat.{ℕ, _+_, _%_}
 use native.Mathlib.Nat.{add-mod}

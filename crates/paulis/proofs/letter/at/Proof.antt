@@ -2,8 +2,8 @@ use mathlib.Core.Path.{ap₂, _∙_}
 use mathlib.Core.Bool.{Bool}
 use Rattle.bitlaws.specs.Digit.{bitOf, digit, digit-lt}
 use Rattle.paulilaws.specs.Letter.{letterAt, letterOf}
-use Rattle.bits.specs.Mask.{mask}
-use Rattle.bits.specs.MaskLaws.{bit-of}
+use Rattle.masks.specs.Mask.{mask}
+use Rattle.masks.specs.MaskLaws.{bit-of}
 use borrow.Author.Needs.{needs}
 use Rattle.paulis.proofs.letter.at.Statement.{statement}
 use Rattle.paulis.proofs.letter.at.Tie as tie

@@ -1,4 +1,4 @@
-use native.Mathlib.Omega.{arith}
+use lib.Dec.{lit≤}
 use borrow.Author.Needs.{needs}
 use Rattle.paulis.proofs.letter.is_y.Statement.{statement}
 use Rattle.paulis.proofs.letter.is_y.Tie as tie
@@ -16,16 +16,16 @@ enum-told-4 : tie.Need-enum-told-4
 enum-told-4 c = search needs
 
 returns : tie.Need-returns
-returns c = (cc, omega arith)
+returns c = (rw (c .enum-told .given .1), lit≤ tt)
 
 returns-2 : tie.Need-returns-2
-returns-2 c = (cc, omega arith)
+returns-2 c = (rw (c .enum-told2 .given .1), lit≤ tt)
 
 returns-3 : tie.Need-returns-3
-returns-3 c = (cc, omega arith)
+returns-3 c = (rw (c .enum-told3 .given .1), lit≤ tt)
 
 returns-4 : tie.Need-returns-4
-returns-4 c = (cc, omega arith)
+returns-4 c = (rw (c .enum-told4 .given .1), lit≤ tt)
 
 pub is-y-spec : {M : Type 1} → statement M
 is-y-spec =

@@ -2,7 +2,7 @@ use mathlib.Core.Path.{sym, ap, _∙_}
 use lib.Dec.{eqb}
 use Rattle.answers.specs.Answer.Answer.{accepted}
 use Rattle.bitlaws.specs.Digit.{digit}
-use Rattle.bits.specs.Mask.{mask}
+use Rattle.masks.specs.Mask.{mask}
 use Rattle.paulis.specs.Calls.{bitCall}
 use Rattle.paulis.specs.Rows.{no-pauli-qubit, no-qubit, a-qubit}
 use Rattle.paulis.specs.Strings.{pauliOf}

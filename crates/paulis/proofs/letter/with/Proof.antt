@@ -4,8 +4,8 @@ use Prim.Native.Nat.{ℕ, _+_, _*_, _%_}
 use Rattle.bitlaws.specs.Digit.{put}
 use Rattle.paulilaws.specs.Pauli.{same}
 use Rattle.paulilaws.specs.Letter.{Letter, withLetter, isY}
-use Rattle.bits.specs.Mask.{mask}
-use Rattle.bits.specs.MaskLaws.{written-inside}
+use Rattle.masks.specs.Mask.{mask}
+use Rattle.masks.specs.MaskLaws.{written-inside}
 use borrow.Author.Needs.{needs}
 use Rattle.paulis.proofs.letter.with.Statement.{statement}
 use Rattle.paulis.proofs.letter.with.Tie as tie

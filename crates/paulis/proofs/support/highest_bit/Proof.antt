@@ -12,8 +12,8 @@ use lib.ListN.{getD}
 use mir.Val.{Fits}
 use mir.Syntax.{w64}
 use Rattle.answers.specs.Answer.Answer.{accepted}
-use Rattle.bits.specs.Mask.{mask}
-use Rattle.bits.specs.MaskLaws.{Small, or-below, word-empty, word-leading, word-top, none-top}
+use Rattle.masks.specs.Mask.{mask}
+use Rattle.masks.specs.MaskLaws.{Small, or-below, word-empty, word-leading, word-top, none-top}
 use Rattle.paulis.proofs.support.highest_bit.Statement.{statement}
 use Rattle.paulis.proofs.support.highest_bit.Tie as tie
 

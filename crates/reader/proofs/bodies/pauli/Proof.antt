@@ -15,7 +15,7 @@ eight-requires-2 c κs = search needs
 
 returns : tie.Need-returns
 unfolding pauliAt
-returns c = cc
+returns c = rw (c .before .eight .ensures, c .eight2 .ensures)
 
 pub pauli-spec : {M : Type 1} → statement M
 pauli-spec = tie.close (tie.spec shared-slice-read-phase eight-requires eight-requires-2 returns)

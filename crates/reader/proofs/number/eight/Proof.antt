@@ -1,6 +1,6 @@
 use borrow.Author.Needs.{needs}
 use native.Mathlib.Omega.{arith}
-use Rattle.reader.proofs.Fields.{number-halves}
+use Rattle.reader.proofs.Numbers.{number-halves}
 use Rattle.reader.proofs.number.eight.Statement.{statement}
 use Rattle.reader.proofs.number.eight.Tie as tie
 use Rattle.reader.proofs.number.four.Reads as four-reads

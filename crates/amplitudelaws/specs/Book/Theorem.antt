@@ -1,0 +1,79 @@
+-- Over any commutative ring with h h + h h = 1 the formulas of a step are the operator of Nielsen and Chuang, and those of a list of steps the product of their
+-- operators. Assumes nothing.
+use mathlib.Core.Path.{_≡_, sym, _∙_}
+use mathlib.Core.List.{List, [], _∷_}
+use mathlib.Core.Bool.{true}
+use Prim.Native.Nat.{ℕ, _-_, _^_, _<_}
+use Rattle.paulilaws.specs.Pauli.{Pauli, product, hermitian}
+use Rattle.paulilaws.specs.Fitting.{Fitting}
+use Rattle.amplitudelaws.specs.Arithmetic.{Amplitude}
+use Rattle.amplitudelaws.specs.Probability.{squared, mass}
+use Rattle.amplitudelaws.specs.Step.{Step, widthAfter, lastWidth}
+use Rattle.amplitudelaws.specs.Step.Step.{rotation, promotion, projection, correction}
+use Rattle.amplitudelaws.specs.Acting.{acts, acted, Measurable, Proper, Propers}
+use Rattle.amplitudelaws.specs.Book.Ring.{Ring}
+use Rattle.amplitudelaws.specs.Book.Complex.{exact}
+use Rattle.amplitudelaws.specs.Book.Sum.{sum}
+use Rattle.amplitudelaws.specs.Book.Matrix.{identity, applied, joined, adjoint, applied-same, applied-identity, applied-joined}
+use Rattle.amplitudelaws.specs.Book.Operators.{pauli, turning, projector, eigenvectors, operator, operators}
+use Rattle.amplitudelaws.specs.Book.Product.{product-is-book}
+use Rattle.amplitudelaws.specs.Book.Turning.{corrected-is-book, rotated-is-book, turnings-add}
+use Rattle.amplitudelaws.specs.Book.Appending.{promoted-appends}
+use Rattle.amplitudelaws.specs.Book.Eigenspace.{projected-is-book, orthonormal, complete}
+use Rattle.amplitudelaws.specs.Book.Length.{mass-is-length}
+
+-- The formulas on amplitudes without rounding. Operators.antt has the operators.
+pub record Book {R : Type 0} (𝓡 : Ring R) (h : R) : Type 0 where
+  -- a step of any kind applies its operator: the rotation c - i s P, the new qubit c|0> + i q|1>, the projector on the branch, the Pauli i^k X^x Z^z
+  pub step : (n : ℕ) (t : Step R) → Proper n t → (F : ℕ → Amplitude R) (b : ℕ) → b < 2 ^ widthAfter n t
+      → acts (exact 𝓡 h) n t F b ≡ applied 𝓡 (2 ^ n) (operator 𝓡 h n t) F b
+  -- a list of steps, the empty one too, applies the product of their operators
+  pub run : (n : ℕ) (ts : List (Step R)) → Propers n ts → (F : ℕ → Amplitude R) (b : ℕ) → b < 2 ^ lastWidth n ts
+      → acted (exact 𝓡 h) n ts F b ≡ applied 𝓡 (2 ^ n) (operators 𝓡 h n ts) F b
+  -- the coordinates in which a projection's result is read belong to an orthonormal basis of all that the projector leaves
+  pub orthonormal : (M : Pauli) (p v : ℕ) → Measurable M p → (a b : ℕ) → a < 2 ^ (M .n - 1) → b < 2 ^ (M .n - 1)
+      → joined 𝓡 (2 ^ M .n) (adjoint 𝓡 (eigenvectors 𝓡 h M p v)) (eigenvectors 𝓡 h M p v) a b ≡ identity 𝓡 a b
+  pub complete : (M : Pauli) (p v : ℕ) → Measurable M p → (a b : ℕ) → a < 2 ^ M .n → b < 2 ^ M .n
+      → joined 𝓡 (2 ^ (M .n - 1)) (eigenvectors 𝓡 h M p v) (adjoint 𝓡 (eigenvectors 𝓡 h M p v)) a b ≡ projector 𝓡 h M v a b
+  -- the probability before the clamp is the squared length of what the projector leaves
+  pub probability : (M : Pauli) (p v : ℕ) → Measurable M p → (F : ℕ → Amplitude R)
+      → mass (exact 𝓡 h) M p v (2 ^ (M .n - 1)) F ≡ sum 𝓡 (2 ^ M .n) (λ a. squared (exact 𝓡 h) (applied 𝓡 (2 ^ M .n) (projector 𝓡 h M v) F a))
+  -- one rotation of a Pauli after another is that by the sum of the angles, by the cosine and the sine of a sum
+  pub angles : (P : Pauli) (e : ℕ) (c s c' s' : R) → Fitting P → hermitian P ≡ true → (F : ℕ → Amplitude R) (b : ℕ) → b < 2 ^ P .n
+      → applied 𝓡 (2 ^ P .n) (turning 𝓡 P e c s) (applied 𝓡 (2 ^ P .n) (turning 𝓡 P e c' s') F) b
+      ≡ applied 𝓡 (2 ^ P .n) (turning 𝓡 P e (𝓡 .add (𝓡 .mul c c') (𝓡 .neg (𝓡 .mul s s'))) (𝓡 .add (𝓡 .mul s c') (𝓡 .mul c s'))) F b
+  -- a product of Paulis is the product of their matrices
+  pub products : (A B : Pauli) → A .n ≡ B .n → Fitting A → Fitting B → (F : ℕ → Amplitude R) (a : ℕ) → a < 2 ^ A .n
+      → applied 𝓡 (2 ^ A .n) (pauli 𝓡 (product A B)) F a ≡ applied 𝓡 (2 ^ A .n) (pauli 𝓡 A) (applied 𝓡 (2 ^ A .n) (pauli 𝓡 B) F) a
+
+module _ {R : Type 0} (𝓡 : Ring R) (h : R) (half : 𝓡 .add (𝓡 .mul h h) (𝓡 .mul h h) ≡ 𝓡 .one) where
+  step-is-book : (n : ℕ) (t : Step R) → Proper n t → (F : ℕ → Amplitude R) (b : ℕ) → b < 2 ^ widthAfter n t
+      → acts (exact 𝓡 h) n t F b ≡ applied 𝓡 (2 ^ n) (operator 𝓡 h n t) F b
+  unfolding widthAfter acts operator
+  step-is-book n (rotation P e c s) (width, fitting, real) F b l = rw (← width) (rotated-is-book 𝓡 h P e c s F b fitting real (rw width l))
+  step-is-book n (promotion c q) ok F b l = promoted-appends 𝓡 h n c q F b l
+  step-is-book n (projection M p v invnorm) (width, ok) F b l = rw (← width) (projected-is-book 𝓡 h half M p v ok invnorm F b (rw width l))
+  step-is-book n (correction P) (width, fitting) F b l = rw (← width) (corrected-is-book 𝓡 h P fitting F b (rw width l))
+
+  run-is-book : (n : ℕ) (ts : List (Step R)) → Propers n ts → (F : ℕ → Amplitude R) (b : ℕ) → b < 2 ^ lastWidth n ts
+      → acted (exact 𝓡 h) n ts F b ≡ applied 𝓡 (2 ^ n) (operators 𝓡 h n ts) F b
+  unfolding lastWidth acted operators
+  run-is-book n [] ok F b l = sym (applied-identity 𝓡 (2 ^ n) F b l)
+  run-is-book n (t ∷ ts) (ok, oks) F b l =
+      let k : ℕ = widthAfter n t in
+      let first : ℕ → Amplitude R = acts (exact 𝓡 h) n t F in
+      run-is-book k ts oks first b l
+      ∙ applied-same 𝓡 (2 ^ k) (operators 𝓡 h k ts) first (applied 𝓡 (2 ^ n) (operator 𝓡 h n t) F) (step-is-book n t ok F) b
+      ∙ sym (applied-joined 𝓡 (2 ^ k) (2 ^ n) (operators 𝓡 h k ts) (operator 𝓡 h n t) F b)
+
+  -- THE BOOK: over any commutative ring with h h + h h = 1
+  pub book : Book 𝓡 h
+  book = record {
+    step = step-is-book;
+    run = run-is-book;
+    orthonormal = λ M p v ok a b. orthonormal 𝓡 h half M p v ok a b;
+    complete = λ M p v ok a b. complete 𝓡 h half M p v ok a b;
+    probability = λ M p v ok F. mass-is-length 𝓡 h half M p ok v F;
+    angles = λ P e c s c' s' fitting real F b l. turnings-add 𝓡 P e c s c' s' F b fitting real l;
+    products = λ A B. product-is-book 𝓡 A B;
+  }

@@ -1,0 +1,73 @@
+// Fields of a run. A field is one byte of tag, two bytes of the body's length, the body, little-endian.
+// Each call answers for any bytes and any place.
+mod number;
+
+ghost use mathlib.Core.Path.{_≡_};
+ghost use Rattle.runlaws.specs.Field.{fieldAt};
+ghost use Rattle.runlaws.specs.Run.{startWidth};
+ghost use Rattle.fields.specs.Told.{headTold, headOf, bodyOf, startTold, startOf};
+
+// A field by its tag and the place of the next field's tag. Its body is handed out by `body`, since
+// an enum holds no reference.
+pub enum FieldAnswer {
+    Whole { tag: u8, next: usize },
+    Cut,
+}
+
+pub enum StartAnswer {
+    Width(usize),
+    NoStart,
+}
+
+// The field whose tag stands at `at`; `Cut` is 14 there.
+pub fn field(run: &[u8], at: usize) -> FieldAnswer
+    ensures { λ r. ⌜ headTold at r ≡ headOf at (fieldAt (now (run .entry)) at) ⌝ }
+{
+    if run.len() <= at {
+        return FieldAnswer::Cut;
+    }
+    if run.len() - at < 3 {
+        return FieldAnswer::Cut;
+    }
+    let tag = run[at];
+    let size = number::two(run, at + 1);
+    let from = at + 3;
+    if run.len() - from < size {
+        return FieldAnswer::Cut;
+    }
+    FieldAnswer::Whole {
+        tag,
+        next: from + size,
+    }
+}
+
+// The body of the field at `at`, as a part of the run; nothing of it where the field is cut.
+pub fn body(run: &[u8], at: usize) -> &[u8]
+    ensures { λ r. ⌜ now r ≡ bodyOf (fieldAt (now (run .entry)) at) ⌝ }
+{
+    let FieldAnswer::Whole { tag: _, next } = field(run, at) else {
+        return &run[0..0];
+    };
+    &run[at + 3..next]
+}
+
+// The width that the first field gives: a start field within the limit; `NoStart` is 14 at 0.
+pub fn start(run: &[u8], limit: usize) -> StartAnswer
+    ensures { λ r. ⌜ startTold r ≡ startOf (startWidth limit (fieldAt (now (run .entry)) 0)) ⌝ }
+{
+    let FieldAnswer::Whole { tag, next: _ } = field(run, 0) else {
+        return StartAnswer::NoStart;
+    };
+    if tag != 1 {
+        return StartAnswer::NoStart;
+    }
+    let held = body(run, 0);
+    if held.len() != 1 {
+        return StartAnswer::NoStart;
+    }
+    let width = held[0] as usize;
+    if limit < width {
+        return StartAnswer::NoStart;
+    }
+    StartAnswer::Width(width)
+}

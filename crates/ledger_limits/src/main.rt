@@ -1,0 +1,61 @@
+// The ledger at its limits: the same three calls are served from ledgers with counts at 0 and at 2^64 - 1,
+// and after each its answer and the three counts are printed. The file stdout beside this folder was derived
+// by hand from the scope.
+mod output;
+
+use ledger::Ledger;
+
+// Serves a run, and prints what comes of it.
+fn serve(ledger: Ledger, run: &[u8], re: &mut [f64], im: &mut [f64]) -> Ledger {
+    let mut scratch_re = [0.0];
+    let mut scratch_im = [0.0];
+    let served = ledger.serve(run, re, im, &mut scratch_re, &mut scratch_im);
+    let answer = served.answer;
+    let after = served.ledger;
+    output::answer(answer);
+    output::counts(after);
+    after
+}
+
+// With room for one qubit.
+fn with_room(ledger: Ledger, run: &[u8]) -> Ledger {
+    let mut re = [1.0, 0.0];
+    let mut im = [0.0, 0.0];
+    serve(ledger, run, &mut re, &mut im)
+}
+
+// With room for none.
+fn short(ledger: Ledger, run: &[u8]) -> Ledger {
+    let mut re = [1.0];
+    let mut im = [0.0];
+    serve(ledger, run, &mut re, &mut im)
+}
+
+// A correction X of one qubit; a run of one qubit that ends behind its start field; the first again, in want of room.
+fn calls(ledger: Ledger) {
+    let run = b"\x01\x01\0\x01\x05\x11\0\0\x01\0\0\0\0\0\0\0\0\0\0\0\0\0\0\0\x06\0\0";
+    output::from(ledger);
+    let finished = with_room(ledger, run);
+    let cut = with_room(finished, b"\x01\x01\0\x01");
+    short(cut, run);
+}
+
+// The calls from a ledger with these counts.
+fn calls_from(offered: u64, finished: u64, refused: u64) {
+    calls(Ledger {
+        offered,
+        finished,
+        refused,
+    });
+}
+
+fn main() {
+    let last = 18446744073709551615;
+    calls(Ledger::new());
+    calls_from(last, 0, 0);
+    calls_from(0, last, 0);
+    calls_from(0, 0, last);
+    calls_from(last, last, 0);
+    calls_from(last, 0, last);
+    calls_from(last, last, last);
+}

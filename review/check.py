@@ -22,7 +22,7 @@ TESTS = {"pauli_calls", "kernel_calls", "run_calls"}  # text in, text out: libra
 RESULTS = set("""
 product-acts anticommute commute identity-product product-identity product-assoc hermitian-square sign-phase raised-acts dropped-acts
 support-some support-none letter-set letter-kept coefficient-kept exact round-trip read-text conserved running-kept carrying-kept frame
-run-exact book starred source-only open-drop
+run-exact book starred source-only open-drop seen-tells
 """.split())
 found = []
 
@@ -37,7 +37,7 @@ def short(path):
 
 # ---- open calls
 
-FUNCTION = re.compile(r"^ *pub fn (\w+)\s*(?:<[^>]*>)?\((.*?)\)\s*(?:->\s*[^\n{]+?)?\s*\n((?:\s*(?:requires|ensures)[^\n]*\n)*)", re.S | re.M)
+FUNCTION = re.compile(r"^ *pub (?:extern \"C\" )?fn (\w+)\s*(?:<[^>]*>)?\((.*?)\)\s*(?:->\s*[^\n{]+?)?\s*\n((?:\s*(?:requires|ensures)[^\n]*\n)*)", re.S | re.M)
 
 
 def open_calls():

@@ -13,6 +13,7 @@ ghost use Rattle.pauligroup.specs.Calls.{productCall, anticommutesCall};
 ghost use Rattle.activepauli.specs.Active.{activeOf, pauliTold, bitTold};
 ghost use Rattle.activepauli.specs.Calls.{raisedCall, droppedCall};
 
+#[repr(C)]
 pub struct ActivePauli {
     pub nqubits: usize,
     pub x: u64,

@@ -17,6 +17,7 @@ ghost use Rattle.steps.specs.Meant.{stepOf, readTold};
 ghost use Rattle.checker.specs.Surveyed.{Measured, Surveyable, endedBy};
 ghost use Rattle.checker.specs.Told.{surveyMeant, checkTold};
 
+#[repr(C)]
 pub struct Survey {
     pub width: usize,
     pub steps: usize,

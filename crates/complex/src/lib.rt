@@ -8,6 +8,7 @@ ghost use Rattle.amplitudelaws.specs.Binary.{binary};
 ghost use Rattle.complex.specs.Complex.{complexOf};
 
 // re + i im.
+#[repr(C)]
 pub struct Complex64 {
     pub re: f64,
     pub im: f64,

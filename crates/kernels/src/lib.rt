@@ -20,6 +20,7 @@ ghost use Rattle.kernels.specs.Kernel.{actionMeant, actionTold, actionOf
 // `even_phase` is the operator's coefficient i^phase; a basis index whose overlap with `zmask` has odd
 // parity picks up `odd_phase`, its negative. `xz_overlap_odd` says whether the two members of an X-pair
 // see opposite parities.
+#[repr(C)]
 pub struct ActivePauliAction {
     pub nqubits: usize,
     pub xmask: u64,
@@ -36,6 +37,7 @@ pub enum ActionAnswer {
 
 // Everything c - i s P needs. `pair_bit` is the highest set bit of `xmask`, 0 where there is none;
 // `minus_even_coefficient` is m = (+0, -s) times i^phase.
+#[repr(C)]
 pub struct PrecomputedActivePauliRotationKernel {
     pub action: ActivePauliAction,
     pub is_diagonal: bool,
@@ -55,6 +57,7 @@ pub enum RotationKernelAnswer {
 // that the measurement consumes: output index j is the input index with bit `pivot` deleted.
 // `diagonal_phase_bit` is set where x is 0 and i^phase is -1; `nondiagonal_coefficient1_even` is w at even parity
 // and branch 0, the conjugate of i^phase times 1/sqrt 2.
+#[repr(C)]
 pub struct PrecomputedActivePauliMeasurementKernel {
     pub action: ActivePauliAction,
     pub pivot: usize,

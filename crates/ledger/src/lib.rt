@@ -9,6 +9,7 @@ ghost use Rattle.runlaws.specs.Ledger as history;
 ghost use Rattle.runner.specs.Told.{runTold};
 ghost use Rattle.ledger.specs.Told.{ledgerOf};
 
+#[repr(C)]
 pub struct Ledger {
     pub offered: u64,
     pub finished: u64,

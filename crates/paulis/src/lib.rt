@@ -15,6 +15,7 @@ ghost use Rattle.paulis.specs.Strings.{pauliOf, bitTold, letterTold, sup
 ghost use Rattle.paulis.specs.Calls.{identityCall, partsCall, bitCall, getCall, setCall, supportCall};
 
 // A Pauli operator on `nqubits` qubits, at most 256, with a phase exponent of i in 0..3.
+#[repr(C)]
 pub struct PauliString {
     pub nqubits: usize,
     pub x: [u64; 4],

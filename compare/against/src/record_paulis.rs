@@ -1,9 +1,8 @@
 //! Records answers of the published Pauli layer: a question a line to `stdin`,
 //! the answer at the same line of `stdout`, both in the folder that is named.
 //!
-//! The modules are the files of inmzhang/ticit ea5d480457 (Apache-2.0) as
-//! published; record.sh puts them beside this file. The output is the same
-//! each time.
+//! The crate ticit has the files of inmzhang/ticit ea5d480457 (Apache-2.0) as
+//! published. The output is the same each time.
 //!
 //! A word is a space and 16 hex digits. A Pauli is ten words: the width, four
 //! words of x, four of z, the phase. The first byte of a question says what is
@@ -27,20 +26,16 @@
 //! the length of the buffer. The Rust's errors have no number: that of
 //! measurement_phase_sign is written as `refused 7`, that of pauli_string as
 //! `refused 2 at` an index, followed by a Pauli of zeros.
-#![allow(dead_code)] // the published files hold more than is asked here
 
-mod active;
-mod bits;
-mod errors;
-mod pauli;
-mod shared;
+mod record;
 
-use active::insert_zero_bit;
-use pauli::{
+use model::dice::Dice;
+use record::Record;
+use ticit::active::insert_zero_bit;
+use ticit::pauli::{
     Pauli, PauliString, measurement_phase_sign, pauli_anticommutes, pauli_identity,
     pauli_squares_to_identity, pauli_string,
 };
-use shared::{Dice, Record};
 
 const WIDTHS: [usize; 16] = [
     0, 1, 2, 3, 5, 63, 64, 65, 127, 128, 129, 191, 192, 193, 255, 256,

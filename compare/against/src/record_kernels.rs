@@ -1,9 +1,8 @@
 //! Records answers of the published kernels: a question a line to `stdin`, the
 //! answer at the same line of `stdout`, both in the folder that is named.
 //!
-//! The modules are the files of inmzhang/ticit ea5d480457 (Apache-2.0) as
-//! published; record.sh puts them beside this file and has the scalar loops run.
-//! The output is the same each time.
+//! The crate ticit has the files of inmzhang/ticit ea5d480457 (Apache-2.0) as
+//! published; record.sh has the scalar loops run. The output is the same each time.
 //!
 //! A question is the name of a call and its words: numbers in decimal, masks and
 //! floats in hexadecimal after 0x. The lent buffers follow, a bar before each;
@@ -24,26 +23,21 @@
 //! fields of what was made; then all lent buffers as they are after the call. A
 //! NaN is 7ff8000000000000. The Rust's errors have no number: `refusal` has the
 //! one that stands for each.
-#![allow(dead_code, unused_imports, unused_macros)] // the published files hold more than is asked here
 
-mod active;
-mod bits;
-mod contiguous;
-mod errors;
-mod pauli;
-mod shared;
+mod record;
 
 use std::f64::consts::{FRAC_PI_2, FRAC_PI_4, PI};
 
-use active::{
+use model::dice::Dice;
+use record::Record;
+use ticit::Complex64;
+use ticit::active::{
     ActivePauliAction, PrecomputedActivePauliMeasurementKernel as MeasurementKernel,
     PrecomputedActivePauliRotationKernel as RotationKernel,
 };
-use contiguous as rust;
-use errors::TicitError;
-use num_complex::Complex64;
-use pauli::{PauliString, pauli_anticommutes, pauli_squares_to_identity};
-use shared::{Dice, Record};
+use ticit::contiguous as rust;
+use ticit::errors::TicitError;
+use ticit::pauli::{PauliString, pauli_anticommutes, pauli_squares_to_identity};
 
 /// The widest state that is recorded.
 const WIDEST: usize = 6;
@@ -202,7 +196,7 @@ impl Recorder {
         self.record.ask(question, shown(made, measurement_fields));
     }
 
-    fn from_pauli(&mut self, p: Active) {
+    fn with_own_pivot(&mut self, p: Active) {
         let made = MeasurementKernel::from_pauli(&p.string());
         let question = format!("from_pauli {}", p.words());
         self.record.ask(question, shown(made, measurement_fields));
@@ -310,7 +304,7 @@ impl Recorder {
             let all = (0..size).flat_map(|x| (0..size).map(move |z| (x, z)));
             return all.collect();
         }
-        let mut each = |kind: usize| {
+        let each = |kind: usize| {
             let one = 1 << self.dice.below(n);
             let [any, other] = [0; 2].map(|_| self.dice.word() % size);
             match (kind + n) % 8 {
@@ -323,7 +317,7 @@ impl Recorder {
                 _ => (any | one, other | 1),
             }
         };
-        (0..count).map(|kind| each(kind)).collect()
+        (0..count).map(each).collect()
     }
 
     /// The pivots that a measurement may have: all of them, or one where the state is wide.
@@ -424,7 +418,7 @@ impl Recorder {
         self.rotation_kernel(p, angle);
         // With no qubits to measure the Rust names the identity, not the width.
         if p.n > 0 {
-            self.from_pauli(p);
+            self.with_own_pivot(p);
         }
     }
 

@@ -1,0 +1,20 @@
+//! What the two programs share: lent buffers that fault on an access outside them, bit-exact comparison,
+//! random input of every kind, and the checks themselves.
+
+pub mod case;
+pub mod convert;
+pub mod direct_amplitudes;
+pub mod direct_paulis;
+pub mod draw;
+pub mod floats;
+pub mod lent;
+pub mod mutate;
+pub mod numbers;
+pub mod offers;
+pub mod outcomes;
+pub mod patterns;
+pub mod state;
+pub mod tally;
+pub mod trials;
+pub mod two_ways;
+pub mod wide;

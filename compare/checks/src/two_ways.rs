@@ -1,0 +1,227 @@
+//! Demand 3, through the calls alone. Way A: the Pauli is applied to the start state, then the run is run.
+//! Way B: the Pauli is carried, the carried run is run, then the end Pauli is applied. The two ways have
+//! different entries past the start state and in the scratch.
+
+use crate::convert::{active, answer, ending, survey};
+use crate::lent::{Lender, Lent};
+use crate::patterns::{all_finite, filling_bytes, hex, hex_floats, same_number};
+use crate::state::{Buffers, Contents, with_state};
+use model::carry::carry;
+use model::dice::Dice;
+use model::pauli::Pauli;
+use model::run::{Run, Survey};
+use naribhush::{ActivePauli, Ending};
+
+/// An accepted run, a Pauli on its start qubits, and the start state.
+pub struct Trial {
+    pub run: Run,
+    pub q: Pauli,
+    pub state: [Vec<f64>; 2],
+}
+
+impl Trial {
+    pub fn description(&self) -> String {
+        let Pauli { n, k, x, z } = self.q;
+        format!(
+            "run {}, Q: n {n} k {k} x {x:#x} z {z:#x}, re {}, im {}",
+            hex(&self.run.bytes()),
+            hex_floats(&self.state[0]),
+            hex_floats(&self.state[1]),
+        )
+    }
+}
+
+/// What was seen where nothing was wrong.
+pub struct Outcome {
+    pub carried: Run,
+    pub finite_start: bool,
+    /// The theorem's premise: each amplitude of the carried run is finite, at the start and after each step.
+    pub finite: bool,
+    pub parts: Parts,
+}
+
+/// The parts re and im of the amplitudes at the last width, way A against way B.
+#[derive(Default)]
+pub struct Parts {
+    pub compared: usize,
+    pub zeros_of_two_signs: usize,
+    pub both_nan: usize,
+    pub differing: usize,
+}
+
+type Check<T> = Result<T, String>;
+
+fn ensure(holds: bool, what: &str) -> Check<()> {
+    if holds { Ok(()) } else { Err(what.to_string()) }
+}
+
+pub fn compare(lender: &Lender, dice: &mut Dice, trial: &Trial) -> Check<Outcome> {
+    let bytes = trial.run.bytes();
+    let lent_run = lender.lend(dice, &bytes);
+    let seen = checked(trial, &lent_run)?;
+    let (carried, end, out) = carried(lender, dice, trial, &lent_run)?;
+    let lengths = lengths(dice, seen);
+
+    let contents = with_state(dice, &trial.state, lengths);
+    let a = way_a(lender, dice, trial, &lent_run, seen, &contents)?;
+    ensure(lent_run[..] == bytes, "the lent run was written")?;
+
+    let contents = with_state(dice, &trial.state, lengths);
+    let mut b = Buffers::lend(lender, dice, &contents);
+    let carried_run = &out[..bytes.len()];
+    ran(&mut b, carried_run, seen, &contents, "carried run")?;
+    let finite_start = trial.state.iter().all(|part| all_finite(part));
+    let finite_steps = step_by_step(lender, dice, &carried, &contents, &b)?;
+    corrected(&mut b, end, seen.width)?;
+
+    Ok(Outcome {
+        carried,
+        finite_start,
+        finite: finite_start && finite_steps,
+        parts: compare_parts(&a, &b, seen.width),
+    })
+}
+
+/// Buffers as long as the run needs them, or a little longer.
+fn lengths(dice: &mut Dice, seen: Survey) -> [usize; 4] {
+    let mut some = |needed: usize| needed + dice.pick(&[0, 0, 1, 5]);
+    let state = 1 << seen.greatest;
+    [state, state, seen.scratch, seen.scratch].map(&mut some)
+}
+
+fn checked(trial: &Trial, lent_run: &[u8]) -> Check<Survey> {
+    let seen = trial.run.survey();
+    let checked = naribhush::check_run(lent_run);
+    let right = checked == Ok(survey(seen)) && seen.steps == trial.run.steps.len();
+    ensure(right, &format!("check_run: {checked:?}, not {seen:?}"))?;
+    Ok(seen)
+}
+
+/// The carried run and the end Pauli, held against the model and against the run itself.
+fn carried<'a>(
+    lender: &'a Lender,
+    dice: &mut Dice,
+    trial: &Trial,
+    lent_run: &[u8],
+) -> Check<(Run, ActivePauli, Lent<'a, u8>)> {
+    let room = lent_run.len() + dice.below(4);
+    let before = filling_bytes(dice, room);
+    let mut out = lender.lend(dice, &before);
+    let answered = naribhush::carry_run(lent_run, active(trial.q), &mut out);
+
+    let (carried, end) = carry(&trial.run, trial.q);
+    ensure(
+        answered == Ok(active(end)),
+        &format!("carry_run: {answered:?}, not {end:?}"),
+    )?;
+    let (written, past) = out.split_at(lent_run.len());
+    ensure(written == carried.bytes(), "carried bytes not the model's")?;
+    ensure(past == &before[written.len()..], "out written past the run")?;
+    ensure(
+        differs_in_flags_alone(&trial.run, lent_run, written),
+        "carrying altered more than signs and branches",
+    )?;
+    let (own, others) = (
+        naribhush::check_run(lent_run),
+        naribhush::check_run(written),
+    );
+    ensure(
+        own == others,
+        "check_run of the carried run answers otherwise",
+    )?;
+    Ok((carried, active(end), out))
+}
+
+fn differs_in_flags_alone(run: &Run, bytes: &[u8], carried: &[u8]) -> bool {
+    let mut rest = carried.to_vec();
+    for at in run.flags_at() {
+        if rest[at] > 1 {
+            return false;
+        }
+        rest[at] = bytes[at];
+    }
+    rest == bytes
+}
+
+fn way_a<'a>(
+    lender: &'a Lender,
+    dice: &mut Dice,
+    trial: &Trial,
+    lent_run: &[u8],
+    seen: Survey,
+    contents: &Contents,
+) -> Check<Buffers<'a>> {
+    let mut a = Buffers::lend(lender, dice, contents);
+    corrected(&mut a, active(trial.q), trial.run.width)?;
+    ran(&mut a, lent_run, seen, contents, "run")?;
+    Ok(a)
+}
+
+/// The correction, and nothing written past the state.
+fn corrected(buffers: &mut Buffers, pauli: ActivePauli, width: usize) -> Check<()> {
+    let before = buffers.contents();
+    let [re, im, ..] = &mut buffers.0;
+    let answered = naribhush::correct(re, im, pauli);
+    ensure(answered == Ok(()), &format!("correct: {answered:?}"))?;
+    let kept = buffers.kept_past(&before, [1 << width, 1 << width, 0, 0]);
+    ensure(kept, "correct wrote past the state")
+}
+
+/// The run, its answer, and nothing written past what the check says that it needs.
+fn ran(
+    buffers: &mut Buffers,
+    bytes: &[u8],
+    seen: Survey,
+    before: &Contents,
+    name: &str,
+) -> Check<()> {
+    let answered = buffers.run(bytes);
+    let right = answered == answer(Ok(seen), ending);
+    ensure(right, &format!("{name}: {answered:?}, not {seen:?}"))?;
+    let state = 1 << seen.greatest;
+    let kept = buffers.kept_past(before, [state, state, seen.scratch, seen.scratch]);
+    ensure(kept, &format!("{name}: wrote past what it needs"))
+}
+
+/// Runs the list one step at a time on buffers of the same contents: whether each step leaves finite
+/// amplitudes alone. In the end the buffers are those of the whole run.
+fn step_by_step(
+    lender: &Lender,
+    dice: &mut Dice,
+    run: &Run,
+    contents: &Contents,
+    whole: &Buffers,
+) -> Check<bool> {
+    let mut buffers = Buffers::lend(lender, dice, contents);
+    let (mut width, mut finite) = (run.width, true);
+    for &step in &run.steps {
+        let one = Run {
+            width,
+            steps: vec![step],
+        };
+        width = step.width_after(width);
+        let answered = buffers.run(&lender.lend(dice, &one.bytes()));
+        let expected = Ok(Ending { width, steps: 1 });
+        ensure(answered == expected, &format!("one step: {answered:?}"))?;
+        finite &= (0..2).all(|part| all_finite(&buffers.0[part][..1 << width]));
+    }
+    let same = buffers.same_but_nan(&whole.contents());
+    ensure(same, "one step at a time ends otherwise than the whole run")?;
+    Ok(finite)
+}
+
+fn compare_parts(a: &Buffers, b: &Buffers, width: usize) -> Parts {
+    let mut parts = Parts::default();
+    for part in 0..2 {
+        let pairs = a.0[part].iter().zip(b.0[part].iter());
+        for (&a, &b) in pairs.take(1 << width) {
+            parts.compared += 1;
+            let same = same_number(a, b);
+            let nan = !same && a.is_nan() && b.is_nan();
+            parts.zeros_of_two_signs += usize::from(same && a.to_bits() != b.to_bits());
+            parts.both_nan += usize::from(nan);
+            parts.differing += usize::from(!same && !nan);
+        }
+    }
+    parts
+}

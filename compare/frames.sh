@@ -1,0 +1,13 @@
+#!/usr/bin/env bash
+# Runs the check of the frame theorem on random runs.
+#
+#   frames.sh [ARGUMENTS of the program frames]
+#
+# Needs the Rattle toolchain (or its archives, see prepare.sh) and cargo with edition 2024.
+set -eu
+. "$(dirname "$0")/prepare.sh"
+
+archives
+workspace checks checks model naribhush
+build --bin frames
+"$work/target/release/frames" "$@"

@@ -1,0 +1,83 @@
+//! A Pauli with one word a mask: i^k X^x Z^z on n qubits.
+
+#[derive(Clone, Copy, Debug, PartialEq, Eq)]
+pub struct Pauli {
+    pub n: usize,
+    pub k: u8,
+    pub x: u64,
+    pub z: u64,
+}
+
+/// The parity of what two words share.
+pub fn parity(a: u64, b: u64) -> u8 {
+    ((a & b).count_ones() % 2) as u8
+}
+
+impl Pauli {
+    pub fn identity(n: usize) -> Self {
+        Self {
+            n,
+            k: 0,
+            x: 0,
+            z: 0,
+        }
+    }
+
+    pub fn is_pauli(self) -> bool {
+        let fits = |mask: u64| self.n >= 64 || mask >> self.n == 0;
+        self.k <= 3 && self.n <= 256 && fits(self.x) && fits(self.z)
+    }
+
+    /// k minus the number of Ys is even.
+    pub fn is_hermitian(self) -> bool {
+        (self.k % 2) == parity(self.x, self.z)
+    }
+
+    pub fn is_identity(self) -> bool {
+        self.x == 0 && self.z == 0
+    }
+
+    /// self times other, other acting first.
+    pub fn times(self, other: Self) -> Self {
+        Self {
+            n: self.n,
+            k: (self.k + other.k + 2 * parity(self.z, other.x)) % 4,
+            x: self.x ^ other.x,
+            z: self.z ^ other.z,
+        }
+    }
+
+    pub fn anticommutes(self, other: Self) -> bool {
+        parity(self.x, other.z) != parity(self.z, other.x)
+    }
+
+    /// The pivot's bit dropped from both masks, those above it moving down one.
+    pub fn dropped(self, pivot: usize) -> Self {
+        let drop = |mask: u64| {
+            let low = (1u64 << pivot) - 1;
+            (mask & low) | (mask >> 1 & !low)
+        };
+        Self {
+            n: self.n - 1,
+            k: self.k,
+            x: drop(self.x),
+            z: drop(self.z),
+        }
+    }
+
+    /// The correction: the amplitude (r, i) of b moves to b xor x, times i^(k + 2 parity(b and z)).
+    pub fn correct(self, re: &mut [f64], im: &mut [f64]) {
+        let (old_re, old_im) = (re.to_vec(), im.to_vec());
+        for b in 0..1usize << self.n {
+            let (r, i) = (old_re[b], old_im[b]);
+            let (new_r, new_i) = match (self.k + 2 * parity(b as u64, self.z)) % 4 {
+                0 => (r, i),
+                1 => (-i, r),
+                2 => (-r, -i),
+                _ => (i, -r),
+            };
+            let to = b ^ self.x as usize;
+            (re[to], im[to]) = (new_r, new_i);
+        }
+    }
+}

@@ -1,0 +1,391 @@
+//! Runs: their fields, how a run is written and read, and the rows that refuse one.
+
+use crate::pauli::Pauli;
+use crate::rows;
+
+/// The service's greatest width.
+pub const LIMIT: usize = 12;
+/// The bytes that a run may have.
+pub const LONGEST: usize = 65_536;
+
+const START: u8 = 1;
+const ROTATION: u8 = 2;
+const PROMOTION: u8 = 3;
+const PROJECTION: u8 = 4;
+const CORRECTION: u8 = 5;
+const END: u8 = 6;
+
+/// Where the sign of a rotation and the branch of a projection stand, counted from the field's tag.
+const SIGN_AT: usize = 3 + 17;
+const BRANCH_AT: usize = 3 + 18;
+
+/// A row of the scope's table, with its place where the call answers one.
+#[derive(Clone, Copy, Debug, PartialEq, Eq)]
+pub struct Refusal {
+    pub number: u8,
+    pub place: Option<usize>,
+}
+
+impl Refusal {
+    pub fn at(number: u8, place: usize) -> Self {
+        let place = Some(place);
+        Self { number, place }
+    }
+
+    /// One of the caller's own rows, which have no place.
+    pub fn of(number: u8) -> Self {
+        let place = None;
+        Self { number, place }
+    }
+}
+
+/// A field between start and end. A float is kept as its 64 bits, so that any NaN pattern survives.
+#[derive(Clone, Copy, Debug, PartialEq, Eq)]
+pub enum Step {
+    Rotation {
+        pauli: Pauli,
+        sign: u8,
+        c: u64,
+        s: u64,
+    },
+    Promotion {
+        c: u64,
+        q: u64,
+    },
+    Projection {
+        pauli: Pauli,
+        pivot: u8,
+        branch: u8,
+        invnorm: u64,
+    },
+    Correction {
+        pauli: Pauli,
+    },
+}
+
+#[derive(Clone, Debug, PartialEq, Eq)]
+pub struct Run {
+    pub width: usize,
+    pub steps: Vec<Step>,
+}
+
+/// What checking a run answers. `scratch` is in amplitudes.
+#[derive(Clone, Copy, Debug, PartialEq, Eq)]
+pub struct Survey {
+    pub width: usize,
+    pub steps: usize,
+    pub greatest: usize,
+    pub scratch: usize,
+}
+
+// ---------------------------------------------------------------- writing
+
+/// Tag, body length, body.
+pub fn field(tag: u8, body: &[u8]) -> Vec<u8> {
+    let length = (body.len() as u16).to_le_bytes();
+    [&[tag], &length[..], body].concat()
+}
+
+pub fn start_field(width: usize) -> Vec<u8> {
+    field(START, &[width as u8])
+}
+
+pub fn end_field() -> Vec<u8> {
+    field(END, &[])
+}
+
+fn pauli_bytes(p: Pauli) -> Vec<u8> {
+    let masks = words(&[p.x, p.z]);
+    [vec![p.k], masks].concat()
+}
+
+fn words(all: &[u64]) -> Vec<u8> {
+    all.iter().flat_map(|word| word.to_le_bytes()).collect()
+}
+
+impl Step {
+    pub fn field(self) -> Vec<u8> {
+        match self {
+            Step::Rotation { pauli, sign, c, s } => {
+                let body = [pauli_bytes(pauli), vec![sign], words(&[c, s])];
+                field(ROTATION, &body.concat())
+            }
+            Step::Promotion { c, q } => field(PROMOTION, &words(&[c, q])),
+            Step::Projection {
+                pauli,
+                pivot,
+                branch,
+                invnorm,
+            } => {
+                let flags = vec![pivot, branch];
+                let body = [pauli_bytes(pauli), flags, words(&[invnorm])];
+                field(PROJECTION, &body.concat())
+            }
+            Step::Correction { pauli } => field(CORRECTION, &pauli_bytes(pauli)),
+        }
+    }
+
+    /// Where in the field the sign or the branch stands.
+    pub fn flag_at(self) -> Option<usize> {
+        match self {
+            Step::Rotation { .. } => Some(SIGN_AT),
+            Step::Projection { .. } => Some(BRANCH_AT),
+            _ => None,
+        }
+    }
+
+    /// The width after the step, which was `width` before it.
+    pub fn width_after(self, width: usize) -> usize {
+        match self {
+            Step::Promotion { .. } => width + 1,
+            Step::Projection { .. } => width - 1,
+            _ => width,
+        }
+    }
+}
+
+impl Run {
+    /// Start, steps, end: each a field.
+    pub fn fields(&self) -> Vec<Vec<u8>> {
+        let steps = self.steps.iter().map(|step| step.field());
+        let mut all = vec![start_field(self.width)];
+        all.extend(steps);
+        all.push(end_field());
+        all
+    }
+
+    pub fn bytes(&self) -> Vec<u8> {
+        self.fields().concat()
+    }
+
+    /// Where in the bytes the signs and branches stand.
+    pub fn flags_at(&self) -> Vec<usize> {
+        let mut places = Vec::new();
+        let mut tag_at = start_field(self.width).len();
+        for step in &self.steps {
+            places.extend(step.flag_at().map(|at| tag_at + at));
+            tag_at += step.field().len();
+        }
+        places
+    }
+
+    /// The width before each step.
+    pub fn widths(&self) -> Vec<usize> {
+        let mut width = self.width;
+        let mut widths = Vec::new();
+        for step in &self.steps {
+            widths.push(width);
+            width = step.width_after(width);
+        }
+        widths
+    }
+
+    pub fn survey(&self) -> Survey {
+        let mut seen = Survey {
+            width: self.width,
+            steps: self.steps.len(),
+            greatest: self.width,
+            scratch: 0,
+        };
+        for step in &self.steps {
+            seen.width = step.width_after(seen.width);
+            seen.greatest = seen.greatest.max(seen.width);
+            if let Step::Projection { pauli, .. } = step
+                && pauli.x != 0
+            {
+                seen.scratch = seen.scratch.max(1 << seen.width);
+            }
+        }
+        seen
+    }
+}
+
+// ---------------------------------------------------------------- reading
+
+fn word(bytes: &[u8]) -> u64 {
+    let eight: [u8; 8] = bytes[..8].try_into().expect("eight bytes");
+    u64::from_le_bytes(eight)
+}
+
+fn pauli_of(body: &[u8], n: usize) -> Pauli {
+    Pauli {
+        n,
+        k: body[0],
+        x: word(&body[1..]),
+        z: word(&body[9..]),
+    }
+}
+
+/// The body length that a tag asks for.
+fn body_length(tag: u8) -> Option<usize> {
+    match tag {
+        START => Some(1),
+        ROTATION => Some(34),
+        PROMOTION => Some(16),
+        PROJECTION => Some(27),
+        CORRECTION => Some(17),
+        END => Some(0),
+        _ => None,
+    }
+}
+
+/// The tag and body of the field at `at`, if its tag and length are right and it is whole.
+fn field_at(bytes: &[u8], at: usize) -> Option<(u8, &[u8])> {
+    let head = bytes.get(at..at + 3)?;
+    let length = u16::from_le_bytes([head[1], head[2]]) as usize;
+    if body_length(head[0]) != Some(length) {
+        return None;
+    }
+    let body = bytes.get(at + 3..at + 3 + length)?;
+    Some((head[0], body))
+}
+
+fn step_of(tag: u8, body: &[u8], width: usize) -> Option<Step> {
+    match tag {
+        ROTATION => Some(Step::Rotation {
+            pauli: pauli_of(body, width),
+            sign: body[17],
+            c: word(&body[18..]),
+            s: word(&body[26..]),
+        }),
+        PROMOTION => Some(Step::Promotion {
+            c: word(body),
+            q: word(&body[8..]),
+        }),
+        PROJECTION => Some(Step::Projection {
+            pauli: pauli_of(body, width),
+            pivot: body[17],
+            branch: body[18],
+            invnorm: word(&body[19..]),
+        }),
+        CORRECTION => Some(Step::Correction {
+            pauli: pauli_of(body, width),
+        }),
+        _ => None,
+    }
+}
+
+/// The row that refuses a step at this width: its kernel's, then 14 for sign and branch, 15 for the limit.
+/// Room for amplitudes is no matter of the step, so the kernels' rows are asked with buffers of any length.
+pub fn step_row(step: Step, width: usize, limit: usize) -> u8 {
+    let float = f64::from_bits;
+    let (kernel, own) = match step {
+        Step::Rotation { pauli, sign, c, s } => (
+            rows::rotation_kernel(pauli, float(c), float(s)),
+            (sign > 1, 14),
+        ),
+        Step::Promotion { c, q } => (
+            rows::promotion(width, float(c), float(q), usize::MAX, usize::MAX),
+            (width >= limit, 15),
+        ),
+        Step::Projection {
+            pauli,
+            pivot,
+            branch,
+            invnorm,
+        } => {
+            let room = [usize::MAX; 2];
+            let pivot = pivot as usize;
+            (
+                rows::projection(pauli, pivot, float(invnorm), room, room),
+                (branch > 1, 14),
+            )
+        }
+        Step::Correction { pauli } => {
+            (rows::correction(pauli, usize::MAX, usize::MAX), (false, 14))
+        }
+    };
+    rows::lowest(&[(kernel != 0, kernel), own])
+}
+
+/// Reads a run whose widths may go up to `limit`: the run, or its first refusal in file order.
+pub fn read(bytes: &[u8], limit: usize) -> Result<Run, Refusal> {
+    if bytes.len() > LONGEST {
+        return Err(Refusal::at(14, 0));
+    }
+    let Some((START, body)) = field_at(bytes, 0) else {
+        return Err(Refusal::at(14, 0));
+    };
+    let start = body[0] as usize;
+    if start > limit {
+        return Err(Refusal::at(14, 0));
+    }
+    let (mut at, mut width, mut steps) = (4, start, Vec::new());
+    loop {
+        let Some((tag, body)) = field_at(bytes, at) else {
+            return Err(Refusal::at(14, at));
+        };
+        let next = at + 3 + body.len();
+        if tag == END {
+            return match bytes.len() {
+                length if length == next => Ok(Run {
+                    width: start,
+                    steps,
+                }),
+                _ => Err(Refusal::at(14, next)),
+            };
+        }
+        // A second start is the one tag left that makes no step.
+        let Some(step) = step_of(tag, body, width) else {
+            return Err(Refusal::at(14, at));
+        };
+        match step_row(step, width, limit) {
+            0 => steps.push(step),
+            row => return Err(Refusal::at(row, at)),
+        }
+        width = step.width_after(width);
+        at = next;
+    }
+}
+
+// --------------------------------------------------------------- the calls
+
+pub fn check_within(bytes: &[u8], limit: usize) -> Result<Survey, Refusal> {
+    read(bytes, limit).map(|run| run.survey())
+}
+
+/// What running needs of the lengths of the state and the scratch: row 13.
+pub fn lacks_room(seen: Survey, state: [usize; 2], scratch: [usize; 2]) -> bool {
+    let short = rows::short(state[0], state[1], seen.greatest);
+    short || scratch.iter().any(|&length| length < seen.scratch)
+}
+
+/// What running answers: the run's refusal, then row 13.
+pub fn running(bytes: &[u8], state: [usize; 2], scratch: [usize; 2]) -> Result<Survey, Refusal> {
+    let seen = check_within(bytes, LIMIT)?;
+    if lacks_room(seen, state, scratch) {
+        return Err(Refusal::of(13));
+    }
+    Ok(seen)
+}
+
+#[cfg(test)]
+mod tests {
+    use super::*;
+
+    /// The run of the scope's example of `bench`.
+    #[test]
+    fn example_of_the_scope() {
+        let mut bytes = vec![1, 1, 0, 1, 5, 17, 0, 0, 1];
+        bytes.extend([0; 15]);
+        bytes.extend([6, 0, 0]);
+        let run = read(&bytes, LIMIT).expect("accepted");
+        assert_eq!(run.bytes(), bytes);
+        let pauli = Pauli {
+            x: 1,
+            ..Pauli::identity(1)
+        };
+        assert_eq!(run.steps, [Step::Correction { pauli }]);
+        assert_eq!(run.survey().steps, 1);
+    }
+
+    #[test]
+    fn places() {
+        assert_eq!(read(&[], LIMIT), Err(Refusal::at(14, 0)));
+        assert_eq!(read(&[1, 1, 0, 13], LIMIT), Err(Refusal::at(14, 0)));
+        assert_eq!(read(&[1, 1, 0, 12], LIMIT), Err(Refusal::at(14, 4)));
+        assert_eq!(read(&[1, 1, 0, 0, 6], LIMIT), Err(Refusal::at(14, 4)));
+        let trailing = [1, 1, 0, 0, 6, 0, 0, 6];
+        assert_eq!(read(&trailing, LIMIT), Err(Refusal::at(14, 7)));
+    }
+}

@@ -1,0 +1,39 @@
+use Rattle.answers.specs.Answer.{valueOr}
+use borrow.Author.Needs.{needs}
+use Rattle.kernel_exports.proofs.seen.pauli.Statement.{statement}
+use Rattle.kernel_exports.proofs.seen.pauli.Tie as tie
+
+enum-known-answer : tie.Need-enum-known-answer
+enum-known-answer c = search needs
+
+accepted-requires : tie.Need-accepted-requires
+accepted-requires c κs = search needs
+
+enum-known-answer-2 : tie.Need-enum-known-answer-2
+enum-known-answer-2 c = search needs
+
+refused-requires : tie.Need-refused-requires
+refused-requires c κs = search needs
+
+no-pauli-requires : tie.Need-no-pauli-requires
+no-pauli-requires c κs = search needs
+
+returns : tie.Need-returns
+unfolding valueOr
+returns c = record { verdict = cc; value = cc }
+
+returns-2 : tie.Need-returns-2
+unfolding valueOr
+returns-2 c = record { verdict = cc; value = cc }
+
+pub pauli-spec : {M : Type 1} → statement M
+pauli-spec =
+    tie.close
+    (tie.spec
+    enum-known-answer
+    accepted-requires
+    enum-known-answer-2
+    refused-requires
+    no-pauli-requires
+    returns
+    returns-2)

@@ -1,0 +1,48 @@
+use Rattle.answers.specs.Answer.{valueOr}
+use borrow.Author.Needs.{needs}
+use Rattle.pauli_exports.proofs.seen.support.Statement.{statement}
+use Rattle.pauli_exports.proofs.seen.support.Tie as tie
+
+enum-known-answer : tie.Need-enum-known-answer
+enum-known-answer c = search needs
+
+accepted-requires : tie.Need-accepted-requires
+accepted-requires c κs = search needs
+
+enum-told : tie.Need-enum-told
+enum-told c = search needs
+
+accepted-requires-2 : tie.Need-accepted-requires-2
+accepted-requires-2 c κs = search needs
+
+enum-known-answer-2 : tie.Need-enum-known-answer-2
+enum-known-answer-2 c = search needs
+
+refused-requires : tie.Need-refused-requires
+refused-requires c κs = search needs
+
+returns : tie.Need-returns
+unfolding valueOr
+returns c = record { verdict = cc; found = cc; qubit = cc }
+
+returns-2 : tie.Need-returns-2
+unfolding valueOr
+returns-2 c = record { verdict = cc; found = cc; qubit = cc }
+
+returns-3 : tie.Need-returns-3
+unfolding valueOr
+returns-3 c = record { verdict = cc; found = cc; qubit = cc }
+
+pub support-spec : {M : Type 1} → statement M
+support-spec =
+    tie.close
+    (tie.spec
+    enum-known-answer
+    accepted-requires
+    enum-told
+    accepted-requires-2
+    enum-known-answer-2
+    refused-requires
+    returns
+    returns-2
+    returns-3)

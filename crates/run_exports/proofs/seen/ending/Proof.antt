@@ -1,0 +1,56 @@
+use Rattle.answers.specs.Answer.{valueOr}
+use borrow.Author.Needs.{needs}
+use Rattle.run_exports.proofs.seen.ending.Statement.{statement}
+use Rattle.run_exports.proofs.seen.ending.Tie as tie
+
+enum-known-answer : tie.Need-enum-known-answer
+enum-known-answer c = search needs
+
+accepted-requires : tie.Need-accepted-requires
+accepted-requires c κs = search needs
+
+enum-known-answer-2 : tie.Need-enum-known-answer-2
+enum-known-answer-2 c = search needs
+
+refused-requires : tie.Need-refused-requires
+refused-requires c κs = search needs
+
+no-ending-requires : tie.Need-no-ending-requires
+no-ending-requires c κs = search needs
+
+enum-known-answer-3 : tie.Need-enum-known-answer-3
+enum-known-answer-3 c = search needs
+
+refused-at-requires : tie.Need-refused-at-requires
+refused-at-requires c κs = search needs
+
+no-ending-requires-2 : tie.Need-no-ending-requires-2
+no-ending-requires-2 c κs = search needs
+
+returns : tie.Need-returns
+unfolding valueOr
+returns c = record { verdict = cc; value = cc }
+
+returns-2 : tie.Need-returns-2
+unfolding valueOr
+returns-2 c = record { verdict = cc; value = cc }
+
+returns-3 : tie.Need-returns-3
+unfolding valueOr
+returns-3 c = record { verdict = cc; value = cc }
+
+pub ending-spec : {M : Type 1} → statement M
+ending-spec =
+    tie.close
+    (tie.spec
+    enum-known-answer
+    accepted-requires
+    enum-known-answer-2
+    refused-requires
+    no-ending-requires
+    enum-known-answer-3
+    refused-at-requires
+    no-ending-requires-2
+    returns
+    returns-2
+    returns-3)

@@ -1,8 +1,8 @@
 //! Between the model's types and those of the calls.
 
 use model::pauli::Pauli;
-use model::run::{Refusal, Survey};
-use naribhush::{ActivePauli, Answer, Ending};
+use model::run::{Found, Refusal, Step, Survey};
+use naribhush::{ActivePauli, Answer, Ending, Field, Read};
 
 pub fn active(p: Pauli) -> ActivePauli {
     ActivePauli {
@@ -31,6 +31,55 @@ pub fn ending(seen: Survey) -> Ending {
     Ending {
         width: seen.width,
         steps: seen.steps,
+    }
+}
+
+/// A field that was found at a cursor, as reading answers it.
+pub fn read(found: Found) -> Read {
+    Read {
+        field: field(found.step),
+        at: found.at,
+        width: found.width,
+    }
+}
+
+fn field(step: Option<Step>) -> Field {
+    let float = f64::from_bits;
+    let nothing = Field::default();
+    match step {
+        Some(Step::Rotation { pauli, sign, c, s }) => Field {
+            tag: 2,
+            pauli: active(pauli),
+            flag: sign == 1,
+            first: float(c),
+            second: float(s),
+            ..nothing
+        },
+        Some(Step::Promotion { c, q }) => Field {
+            tag: 3,
+            first: float(c),
+            second: float(q),
+            ..nothing
+        },
+        Some(Step::Projection {
+            pauli,
+            pivot,
+            branch,
+            invnorm,
+        }) => Field {
+            tag: 4,
+            pauli: active(pauli),
+            flag: branch == 1,
+            pivot: pivot.into(),
+            first: float(invnorm),
+            ..nothing
+        },
+        Some(Step::Correction { pauli }) => Field {
+            tag: 5,
+            pauli: active(pauli),
+            ..nothing
+        },
+        None => Field { tag: 6, ..nothing },
     }
 }
 

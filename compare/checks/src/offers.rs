@@ -1,7 +1,7 @@
 //! Bytes offered to every call that takes a run: the answer is the model's, a refused call writes nothing,
 //! an accepted one nothing past what it needs, and the lent run stays as it was.
 
-use crate::convert::{active, answer, ending, survey};
+use crate::convert::{active, answer, ending, read, survey};
 use crate::draw;
 use crate::lent::Lender;
 use crate::mutate::bad_pauli;
@@ -11,13 +11,14 @@ use crate::state::{Buffers, Contents, patterns};
 use model::carry::carrying;
 use model::dice::Dice;
 use model::pauli::Pauli;
-use model::run::{self, Survey, check_within, running};
-use naribhush::{Answer, Ending, Ledger, Refusal};
+use model::run::{self, Survey, check_within, read_at, running};
+use naribhush::{Answer, Ending, Ledger, Read, Refusal};
 
 const LIMITS: [usize; 6] = [60, 61, 62, 256, 257, usize::MAX];
 
 pub fn offer(lender: &Lender, dice: &mut Dice, bytes: &[u8], seen: &mut Outcomes) {
     let lent = lender.lend(dice, bytes);
+    reads(dice, &lent, seen);
     check(dice, &lent, seen);
     run(lender, dice, &lent, seen);
     carry(lender, dice, &lent, seen);
@@ -30,16 +31,69 @@ pub fn offer(lender: &Lender, dice: &mut Dice, bytes: &[u8], seen: &mut Outcomes
     );
 }
 
+fn any_limit(dice: &mut Dice) -> usize {
+    match dice.flip() {
+        true => dice.below(21),
+        false => dice.pick(&LIMITS),
+    }
+}
+
+// ------------------------------------------------------------------ reading
+
+/// The places of the fields, as their own lengths have them.
+fn places(bytes: &[u8]) -> Vec<usize> {
+    let (mut at, mut places) = (0, Vec::new());
+    while let Some(&[_, low, high]) = bytes.get(at..at + 3) {
+        places.push(at);
+        at += 3 + usize::from(u16::from_le_bytes([low, high]));
+    }
+    places.push(at);
+    places
+}
+
+/// Mostly the place of a field and a width that it may have; at times anything.
+fn any_cursor(dice: &mut Dice, bytes: &[u8]) -> (usize, usize) {
+    let start = bytes.get(3).map_or(0, |&n| n as usize);
+    let at = match dice.below(8) {
+        0 => dice.below(bytes.len() + 4),
+        1 => usize::MAX - dice.below(5),
+        _ => dice.pick(&places(bytes)),
+    };
+    let width = match dice.below(8) {
+        0 => dice.pick(&[12, 60, 61, 62, 63, 64, 255, 256, 257, usize::MAX]),
+        1 | 2 => dice.below(14),
+        _ => start,
+    };
+    (at, width)
+}
+
+/// What PartialEq does not tell apart: the two zeros.
+fn float_bits(read: Read) -> [u64; 2] {
+    [read.field.first.to_bits(), read.field.second.to_bits()]
+}
+
+fn reads(dice: &mut Dice, bytes: &[u8], seen: &mut Outcomes) {
+    for _ in 0..4 {
+        let (at, width) = any_cursor(dice, bytes);
+        let limit = any_limit(dice);
+        let expected = answer(read_at(bytes, at, width, limit), read);
+        let answered = naribhush::read(bytes, at, width, limit);
+        let input = || format!("at {at}, width {width}, limit {limit}, run {}", hex(bytes));
+        seen.answered("read", &answered, &expected, input);
+        let same = answered.map(float_bits) == expected.map(float_bits);
+        seen.holds("read", "its floats have the bits of the run", same, input);
+    }
+}
+
+// ----------------------------------------------------------------- checking
+
 fn check(dice: &mut Dice, bytes: &[u8], seen: &mut Outcomes) {
     let expected = answer(check_within(bytes, run::LIMIT), survey);
     let answered = naribhush::check_run(bytes);
     let input = || format!("run {}", hex(bytes));
     seen.answered("check_run", &answered, &expected, input);
 
-    let limit = match dice.flip() {
-        true => dice.below(21),
-        false => dice.pick(&LIMITS),
-    };
+    let limit = any_limit(dice);
     let expected = answer(check_within(bytes, limit), survey);
     let answered = naribhush::check_within(bytes, limit);
     let input = || format!("limit {limit}, run {}", hex(bytes));

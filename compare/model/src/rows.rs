@@ -95,9 +95,5 @@ pub fn projection(
 }
 
 pub fn correction(p: Pauli, re: usize, im: usize) -> u8 {
-    lowest(&[
-        (!p.is_pauli(), 3),
-        (p.n > 61, 6),
-        (short(re, im, p.n), 13),
-    ])
+    lowest(&[(!p.is_pauli(), 3), (p.n > 61, 6), (short(re, im, p.n), 13)])
 }

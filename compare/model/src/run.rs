@@ -231,12 +231,13 @@ fn body_length(tag: u8) -> Option<usize> {
 
 /// The tag and body of the field at `at`, if its tag and length are right and it is whole.
 fn field_at(bytes: &[u8], at: usize) -> Option<(u8, &[u8])> {
-    let head = bytes.get(at..at + 3)?;
+    let rest = bytes.get(at..)?;
+    let head = rest.get(..3)?;
     let length = u16::from_le_bytes([head[1], head[2]]) as usize;
     if body_length(head[0]) != Some(length) {
         return None;
     }
-    let body = bytes.get(at + 3..at + 3 + length)?;
+    let body = rest.get(3..3 + length)?;
     Some((head[0], body))
 }
 
@@ -298,6 +299,41 @@ pub fn step_row(step: Step, width: usize, limit: usize) -> u8 {
     rows::lowest(&[(kernel != 0, kernel), own])
 }
 
+/// What stands at a cursor, and the cursor behind it. `step` is none for the end field.
+#[derive(Clone, Copy, Debug, PartialEq, Eq)]
+pub struct Found {
+    pub step: Option<Step>,
+    pub at: usize,
+    pub width: usize,
+}
+
+/// The field whose tag stands at `at`, the state having `width` qubits there.
+pub fn read_at(bytes: &[u8], at: usize, width: usize, limit: usize) -> Result<Found, Refusal> {
+    let Some((tag, body)) = field_at(bytes, at) else {
+        return Err(Refusal::at(14, at));
+    };
+    let next = at + 3 + body.len();
+    if tag == END {
+        return Ok(Found {
+            step: None,
+            at: next,
+            width,
+        });
+    }
+    // A start is the one tag left that makes no step.
+    let Some(step) = step_of(tag, body, width) else {
+        return Err(Refusal::at(14, at));
+    };
+    match step_row(step, width, limit) {
+        0 => Ok(Found {
+            step: Some(step),
+            at: next,
+            width: step.width_after(width),
+        }),
+        row => Err(Refusal::at(row, at)),
+    }
+}
+
 /// Reads a run whose widths may go up to `limit`: the run, or its first refusal in file order.
 pub fn read(bytes: &[u8], limit: usize) -> Result<Run, Refusal> {
     if bytes.len() > LONGEST {
@@ -312,29 +348,18 @@ pub fn read(bytes: &[u8], limit: usize) -> Result<Run, Refusal> {
     }
     let (mut at, mut width, mut steps) = (4, start, Vec::new());
     loop {
-        let Some((tag, body)) = field_at(bytes, at) else {
-            return Err(Refusal::at(14, at));
-        };
-        let next = at + 3 + body.len();
-        if tag == END {
-            return match bytes.len() {
-                length if length == next => Ok(Run {
+        let found = read_at(bytes, at, width, limit)?;
+        (at, width) = (found.at, found.width);
+        match found.step {
+            Some(step) => steps.push(step),
+            None if at < bytes.len() => return Err(Refusal::at(14, at)),
+            None => {
+                return Ok(Run {
                     width: start,
                     steps,
-                }),
-                _ => Err(Refusal::at(14, next)),
-            };
+                });
+            }
         }
-        // A second start is the one tag left that makes no step.
-        let Some(step) = step_of(tag, body, width) else {
-            return Err(Refusal::at(14, at));
-        };
-        match step_row(step, width, limit) {
-            0 => steps.push(step),
-            row => return Err(Refusal::at(row, at)),
-        }
-        width = step.width_after(width);
-        at = next;
     }
 }
 

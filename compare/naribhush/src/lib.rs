@@ -75,6 +75,28 @@ pub struct PrecomputedActivePauliMeasurementKernel {
     pub nondiagonal_coefficient1_even: Complex64,
 }
 
+/// A field of a run by its tag: 2 to 5 a step, 6 the end. `flag` is a sign or a branch. What the field does not
+/// have is 0; a projection's one float is the first.
+#[repr(C)]
+#[derive(Clone, Copy, Debug, PartialEq, Default)]
+pub struct Field {
+    pub tag: u8,
+    pub pauli: ActivePauli,
+    pub flag: bool,
+    pub pivot: usize,
+    pub first: f64,
+    pub second: f64,
+}
+
+/// What reading at a cursor answers: the field, and the cursor behind it.
+#[repr(C)]
+#[derive(Clone, Copy, Debug, PartialEq, Default)]
+pub struct Read {
+    pub field: Field,
+    pub at: usize,
+    pub width: usize,
+}
+
 /// What checking a run answers.
 #[repr(C)]
 #[derive(Clone, Copy, Debug, PartialEq, Eq, Default)]
@@ -217,6 +239,7 @@ unsafe extern "C" {
     fn naribhush_project(re: *mut f64, re_len: usize, im: *mut f64, im_len: usize, scratch_re: *mut f64, scratch_re_len: usize, scratch_im: *mut f64, scratch_im_len: usize, pauli: ActivePauli, pivot: usize, branch: bool, invnorm: f64) -> Verdict;
     fn naribhush_correct(re: *mut f64, re_len: usize, im: *mut f64, im_len: usize, pauli: ActivePauli) -> Verdict;
 
+    fn naribhush_read(run: *const u8, len: usize, at: usize, width: usize, limit: usize) -> Seen<Read>;
     fn naribhush_check_run(run: *const u8, len: usize) -> Seen<Survey>;
     fn naribhush_check_within(run: *const u8, len: usize, limit: usize) -> Seen<Survey>;
     fn naribhush_run(run: *const u8, len: usize, re: *mut f64, re_len: usize, im: *mut f64, im_len: usize, scratch_re: *mut f64, scratch_re_len: usize, scratch_im: *mut f64, scratch_im_len: usize) -> SeenEnding;
@@ -449,13 +472,17 @@ pub fn project(
 }
 
 pub fn correct(re: &mut [f64], im: &mut [f64], pauli: ActivePauli) -> Answer<()> {
-    let verdict = unsafe {
-        naribhush_correct(re.as_mut_ptr(), re.len(), im.as_mut_ptr(), im.len(), pauli)
-    };
+    let verdict =
+        unsafe { naribhush_correct(re.as_mut_ptr(), re.len(), im.as_mut_ptr(), im.len(), pauli) };
     verdict.answer(())
 }
 
 // ------------------------------------------------------------------- runs
+
+/// The field whose tag stands at `at`, the state having `width` qubits there.
+pub fn read(run: &[u8], at: usize, width: usize, limit: usize) -> Answer<Read> {
+    unsafe { naribhush_read(run.as_ptr(), run.len(), at, width, limit) }.answer()
+}
 
 pub fn check_run(run: &[u8]) -> Answer<Survey> {
     unsafe { naribhush_check_run(run.as_ptr(), run.len()) }.answer()
@@ -490,9 +517,8 @@ pub fn run_contiguous(
 }
 
 pub fn carry_run(run: &[u8], pauli: ActivePauli, out: &mut [u8]) -> Answer<ActivePauli> {
-    let seen = unsafe {
-        naribhush_carry(run.as_ptr(), run.len(), pauli, out.as_mut_ptr(), out.len())
-    };
+    let seen =
+        unsafe { naribhush_carry(run.as_ptr(), run.len(), pauli, out.as_mut_ptr(), out.len()) };
     seen.answer()
 }
 

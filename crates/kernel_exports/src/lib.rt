@@ -1,7 +1,8 @@
 // The calls on one-word Paulis, kernels and amplitudes for callers in other languages, in C's calling
 // convention: each is one call of the second layer. Its answer is a struct of numbers: the verdict, and the
 // value, which beside a refusal is a fixed one. Paulis and kernels cross as the structs that they are, laid out as
-// in C; a lent slice is a pointer and a length.
+// in C; a lent slice is a pointer and a length: that it is so long, and that no two overlap, is the caller's to
+// see to.
 pub mod seen;
 
 use activepauli::ActivePauli;

@@ -1,5 +1,5 @@
 -- What is seen of an answer that is a qubit or none: whether there is one, and which, 0 where there is none. Assumes nothing.
-use mathlib.Core.Path.{_≡_, subst}
+use mathlib.Core.Path.{_≡_, refl, subst}
 use mathlib.Core.Bool.{Bool, true, false}
 use mathlib.Core.Option.{Option, none, some}
 use Prim.Native.Nat.{ℕ}
@@ -22,3 +22,13 @@ pub record SeenQubit (v : Verdict) (b : Bool) (q : ℕ) (answer : Answer (Option
 
 pub seen-qubit-as : {v : Verdict} {b : Bool} {q : ℕ} {answer same : Answer (Option ℕ)} → SeenQubit v b q answer → answer ≡ same → SeenQubit v b q same
 seen-qubit-as {v} {b} {q} s e = subst (λ (x : Answer (Option ℕ)). SeenQubit v b q x) e s
+
+-- what is seen tells the qubit
+unfoldable pub qubitBack : Bool → ℕ → Option ℕ
+qubitBack true q = some q
+qubitBack false q = none
+
+pub qubit-tells : (o : Option ℕ) → qubitBack (isSome o) (qubitOr0 o) ≡ o
+unfolding qubitBack
+qubit-tells none = refl
+qubit-tells (some q) = refl

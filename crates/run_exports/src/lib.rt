@@ -1,17 +1,20 @@
 // The calls on runs for callers in other languages, in C's calling convention: each is one call of the third
 // layer. Its answer is a struct of numbers: the verdict, and the value, which beside a refusal is a fixed one. A
-// lent slice is a pointer and a length.
+// lent slice is a pointer and a length; that it is so long, and that no two overlap, is the caller's to see to.
 pub mod seen;
 
 use activepauli::ActivePauli;
 use kernel_exports::seen::SeenActivePauli;
 use ledger::Ledger;
 use seen::SeenEnding;
+use seen::SeenRead;
 use seen::SeenServed;
 use seen::SeenSurvey;
+use steps::Cursor;
 ghost use mathlib.Core.Path.{_≡_};
 ghost use Rattle.paulilaws.specs.Pauli.{identity};
 ghost use Rattle.framelaws.specs.Memory.{memoryOf};
+ghost use Rattle.runlaws.specs.Reading.{readAt};
 ghost use Rattle.runlaws.specs.Run.{widestRun};
 ghost use Rattle.runlaws.specs.Calls.{checking, running, carrying};
 ghost use Rattle.runlaws.specs.Ledger as history;
@@ -20,6 +23,16 @@ ghost use Rattle.checker.specs.Told.{surveyMeant};
 ghost use Rattle.ledger.specs.Told.{ledgerOf};
 ghost use Rattle.verdicts.specs.Verdict.{Seen};
 ghost use Rattle.run_exports.specs.Nothing.{noSurvey, noEnding};
+ghost use Rattle.run_exports.specs.Reading.{readSeen, readMeant};
+
+// The field at a cursor: where its tag stands, and the width of the state there.
+#[no_mangle]
+pub extern "C" fn naribhush_read(run: &[u8], at: usize, width: usize, limit: usize) -> SeenRead
+    ensures { λ r. ⌜ readMeant r ≡ readSeen (readAt limit (now (run .entry)) (record { at = at; width = width })) ⌝ }
+{
+    let cursor = Cursor { at, width };
+    seen::read(reader::read(run, cursor, limit))
+}
 
 #[no_mangle]
 pub extern "C" fn naribhush_check_run(run: &[u8]) -> SeenSurvey

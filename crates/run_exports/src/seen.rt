@@ -1,19 +1,24 @@
 // The answers of the third layer as a caller in another language sees them.
+use activepauli::ActivePauli;
 use carrier::CarryAnswer;
 use checker::CheckAnswer;
 use checker::Survey;
 use kernel_exports::seen::SeenActivePauli;
 use ledger::Ledger;
 use runner::RunAnswer;
+use steps::Read;
+use steps::Step;
 use verdicts::Verdict;
 ghost use mathlib.Core.Path.{_≡_};
 ghost use Rattle.paulilaws.specs.Pauli.{identity};
 ghost use Rattle.activepauli.specs.Active.{activeOf};
+ghost use Rattle.steps.specs.Meant.{stepOf, readTold};
 ghost use Rattle.checker.specs.Told.{surveyMeant, checkTold};
 ghost use Rattle.runner.specs.Told.{runTold};
 ghost use Rattle.carrier.specs.Told.{carryTold};
 ghost use Rattle.verdicts.specs.Verdict.{Seen};
 ghost use Rattle.run_exports.specs.Nothing.{noSurvey, noEnding};
+ghost use Rattle.run_exports.specs.Reading.{stepSeen, bareSeen, readSeen, fieldMeant, readMeant};
 
 // Beside a refusal all numbers of the survey are 0.
 #[repr(C)]
@@ -35,6 +40,27 @@ pub struct SeenEnding {
 pub struct SeenServed {
     pub ending: SeenEnding,
     pub ledger: Ledger,
+}
+
+// A field of a run by its tag: 2 to 5 a step, 6 the end. `flag` is a rotation's sign or a projection's branch. What
+// the field does not have is the identity on no qubits, false, 0 or +0; a projection's one float is the first.
+#[repr(C)]
+pub struct SeenField {
+    pub tag: u8,
+    pub pauli: ActivePauli,
+    pub flag: bool,
+    pub pivot: usize,
+    pub first: f64,
+    pub second: f64,
+}
+
+// The field at a cursor, and the cursor behind it. Beside a refusal the tag is 0, and so are the others.
+#[repr(C)]
+pub struct SeenRead {
+    pub verdict: Verdict,
+    pub field: SeenField,
+    pub at: usize,
+    pub width: usize,
 }
 
 pub(crate) fn survey(answer: CheckAnswer) -> SeenSurvey
@@ -94,5 +120,98 @@ pub(crate) fn carried(answer: CarryAnswer) -> SeenActivePauli
         CarryAnswer::RefusedAt(row, at) => {
             kernel_exports::seen::no_pauli(verdicts::refused_at(row, at))
         }
+    }
+}
+
+fn identity_on_none() -> ActivePauli
+    ensures { λ r. ⌜ activeOf r ≡ identity 0 ⌝ }
+{
+    ActivePauli {
+        nqubits: 0,
+        x: 0,
+        z: 0,
+        phase: 0,
+    }
+}
+
+// A field that has nothing but its tag.
+fn bare(tag: u8) -> SeenField
+    ensures { λ r. ⌜ fieldMeant r ≡ bareSeen tag ⌝ }
+{
+    let pauli = identity_on_none();
+    SeenField {
+        tag,
+        pauli,
+        flag: false,
+        pivot: 0,
+        first: 0.0,
+        second: 0.0,
+    }
+}
+
+fn step(step: Step) -> SeenField
+    ensures { λ r. ⌜ fieldMeant r ≡ stepSeen (stepOf step) ⌝ }
+{
+    match step {
+        Step::Rotation(pauli, flag, first, second) => SeenField {
+            tag: 2,
+            pauli,
+            flag,
+            pivot: 0,
+            first,
+            second,
+        },
+        Step::Promotion(first, second) => {
+            let pauli = identity_on_none();
+            SeenField {
+                tag: 3,
+                pauli,
+                flag: false,
+                pivot: 0,
+                first,
+                second,
+            }
+        }
+        Step::Projection(pauli, pivot, flag, first) => SeenField {
+            tag: 4,
+            pauli,
+            flag,
+            pivot,
+            first,
+            second: 0.0,
+        },
+        Step::Correction(pauli) => SeenField {
+            tag: 5,
+            pauli,
+            flag: false,
+            pivot: 0,
+            first: 0.0,
+            second: 0.0,
+        },
+    }
+}
+
+pub(crate) fn read(got: Read) -> SeenRead
+    ensures { λ r. ⌜ readMeant r ≡ readSeen (readTold got) ⌝ }
+{
+    match got {
+        Read::Step(taken, behind) => SeenRead {
+            verdict: verdicts::accepted(),
+            field: step(taken),
+            at: behind.at,
+            width: behind.width,
+        },
+        Read::End(behind) => SeenRead {
+            verdict: verdicts::accepted(),
+            field: bare(6),
+            at: behind.at,
+            width: behind.width,
+        },
+        Read::Refused(row, at) => SeenRead {
+            verdict: verdicts::refused_at(row, at),
+            field: bare(0),
+            at: 0,
+            width: 0,
+        },
     }
 }

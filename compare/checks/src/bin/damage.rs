@@ -16,7 +16,8 @@ const CASES: u64 = 3_000_000;
 const SEED: u64 = 1;
 
 /// The rows that each call has, 0 where none refuses it.
-const WANTED: [(&str, &[u8]); 37] = [
+const WANTED: [(&str, &[u8]); 38] = [
+    ("read", &[0, 3, 6, 7, 8, 9, 10, 11, 12, 14, 15]),
     ("check_run", &[0, 3, 7, 8, 9, 10, 11, 12, 14, 15]),
     ("check_within", &[0, 3, 6, 7, 8, 9, 10, 11, 12, 14, 15]),
     ("run", &[0, 3, 7, 8, 9, 10, 11, 12, 14, 15]),

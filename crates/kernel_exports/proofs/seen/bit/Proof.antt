@@ -1,4 +1,3 @@
-use Rattle.verdicts.specs.Verdict.{seen-as}
 use borrow.Author.Needs.{needs}
 use Rattle.kernel_exports.proofs.seen.bit.Statement.{statement}
 use Rattle.kernel_exports.proofs.seen.bit.Tie as tie
@@ -16,10 +15,10 @@ no-bit-requires : tie.Need-no-bit-requires
 no-bit-requires c κs = search needs
 
 returns : tie.Need-returns
-returns c = seen-as (c .bit .ensures) (cc)
+returns c = rw (c .before .before .answer .given .1) (c .bit .ensures)
 
 returns-2 : tie.Need-returns-2
-returns-2 c = seen-as (c .no-bit .ensures) (cc)
+returns-2 c = rw (c .before .before .answer2 .given .1) (c .no-bit .ensures)
 
 pub bit-spec : {M : Type 1} → statement M
 bit-spec =

@@ -1,3 +1,4 @@
+use mathlib.Core.Path.{refl, _∙_}
 use Rattle.answers.specs.Answer.{valueOr}
 use borrow.Author.Needs.{needs}
 use Rattle.kernel_exports.proofs.seen.pauli.Statement.{statement}
@@ -20,11 +21,11 @@ no-pauli-requires c κs = search needs
 
 returns : tie.Need-returns
 unfolding valueOr
-returns c = record { verdict = cc; value = cc }
+returns c = rw (c .before .before .answer .given .1) (record { verdict = c .accepted .ensures; value = refl })
 
 returns-2 : tie.Need-returns-2
 unfolding valueOr
-returns-2 c = record { verdict = cc; value = cc }
+returns-2 c = rw (c .before .before .before .answer2 .given .1) (record { verdict = c .no-pauli .ensures .0 ∙ c .before .refused .ensures; value = c .no-pauli .ensures .1 })
 
 pub pauli-spec : {M : Type 1} → statement M
 pauli-spec =

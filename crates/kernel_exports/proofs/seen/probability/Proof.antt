@@ -1,3 +1,4 @@
+use mathlib.Core.Path.{refl}
 use Rattle.answers.specs.Answer.{valueOr}
 use borrow.Author.Needs.{needs}
 use Rattle.kernel_exports.proofs.seen.probability.Statement.{statement}
@@ -17,11 +18,11 @@ refused-requires c κs = search needs
 
 returns : tie.Need-returns
 unfolding valueOr
-returns c = record { verdict = cc; value = cc }
+returns c = rw (c .before .before .answer .given .1) (record { verdict = c .accepted .ensures; value = refl })
 
 returns-2 : tie.Need-returns-2
 unfolding valueOr
-returns-2 c = record { verdict = cc; value = cc }
+returns-2 c = rw (c .before .before .answer2 .given .1) (record { verdict = c .refused .ensures; value = refl })
 
 pub probability-spec : {M : Type 1} → statement M
 probability-spec =

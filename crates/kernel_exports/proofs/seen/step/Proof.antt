@@ -18,7 +18,7 @@ returns : tie.Need-returns
 returns c = search needs
 
 returns-2 : tie.Need-returns-2
-returns-2 c = cc
+returns-2 c = rw (c .before .before .answer .given .1) (c .refused .ensures)
 
 pub step-spec : {M : Type 1} → statement M
 step-spec =

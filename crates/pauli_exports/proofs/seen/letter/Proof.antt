@@ -1,3 +1,4 @@
+use mathlib.Core.Path.{_∙_}
 use Rattle.answers.specs.Answer.{valueOr}
 use borrow.Author.Needs.{needs}
 use Rattle.pauli_exports.proofs.seen.letter.Statement.{statement}
@@ -23,11 +24,11 @@ parts-requires-2 c κs = search needs
 
 returns : tie.Need-returns
 unfolding valueOr
-returns c = record { verdict = cc; value = cc }
+returns c = rw (c .before .before .before .answer .given .1) (record { verdict = c .parts .ensures .0 ∙ c .before .accepted .ensures; value = c .parts .ensures .1 })
 
 returns-2 : tie.Need-returns-2
 unfolding valueOr
-returns-2 c = record { verdict = cc; value = cc }
+returns-2 c = rw (c .before .before .before .answer2 .given .1) (record { verdict = c .parts2 .ensures .0 ∙ c .before .refused .ensures; value = c .parts2 .ensures .1 })
 
 pub letter-spec : {M : Type 1} → statement M
 letter-spec =

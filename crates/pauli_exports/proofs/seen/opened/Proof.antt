@@ -1,4 +1,3 @@
-use Rattle.verdicts.specs.Verdict.{seen-as}
 use borrow.Author.Needs.{needs}
 use Rattle.pauli_exports.proofs.seen.opened.Statement.{statement}
 use Rattle.pauli_exports.proofs.seen.opened.Tie as tie
@@ -16,10 +15,10 @@ no-number-requires : tie.Need-no-number-requires
 no-number-requires c κs = search needs
 
 returns : tie.Need-returns
-returns c = seen-as (c .number .ensures) (cc)
+returns c = rw (c .before .before .answer .given .1) (c .number .ensures)
 
 returns-2 : tie.Need-returns-2
-returns-2 c = seen-as (c .no-number .ensures) (cc)
+returns-2 c = rw (c .before .before .answer2 .given .1) (c .no-number .ensures)
 
 pub opened-spec : {M : Type 1} → statement M
 opened-spec =

@@ -15,10 +15,10 @@ refused-requires : tie.Need-refused-requires
 refused-requires c κs = search needs
 
 returns : tie.Need-returns
-returns c = λ P. cc
+returns c = λ P. rw (c .before .enum-told .given .1) (c .accepted .ensures)
 
 returns-2 : tie.Need-returns-2
-returns-2 c = λ P. cc
+returns-2 c = λ P. rw (c .before .before .outcome .given .1) (c .refused .ensures)
 
 pub outcome-spec : {M : Type 1} → statement M
 outcome-spec =

@@ -21,13 +21,13 @@ refused-at-requires : tie.Need-refused-at-requires
 refused-at-requires c κs = search needs
 
 returns : tie.Need-returns
-returns c = λ P. cc
+returns c = λ P. rw (c .before .enum-told .given .1) (c .accepted .ensures)
 
 returns-2 : tie.Need-returns-2
-returns-2 c = λ P. cc
+returns-2 c = λ P. rw (c .before .before .reading .given .1) (c .refused .ensures)
 
 returns-3 : tie.Need-returns-3
-returns-3 c = λ P. cc
+returns-3 c = λ P. rw (c .before .before .reading2 .given .1) (c .refused-at .ensures)
 
 pub reading-spec : {M : Type 1} → statement M
 reading-spec =

@@ -1,3 +1,4 @@
+use mathlib.Core.Path.{refl}
 use Rattle.answers.specs.Answer.{valueOr}
 use borrow.Author.Needs.{needs}
 use Rattle.pauli_exports.proofs.seen.support.Statement.{statement}
@@ -23,15 +24,15 @@ refused-requires c κs = search needs
 
 returns : tie.Need-returns
 unfolding valueOr
-returns c = record { verdict = cc; found = cc; qubit = cc }
+returns c = rw (c .before .before .answer .given .1) (record { verdict = c .accepted .ensures; found = refl; qubit = refl })
 
 returns-2 : tie.Need-returns-2
 unfolding valueOr
-returns-2 c = record { verdict = cc; found = cc; qubit = cc }
+returns-2 c = rw (c .before .enum-told .given .1) (record { verdict = c .accepted2 .ensures; found = refl; qubit = refl })
 
 returns-3 : tie.Need-returns-3
 unfolding valueOr
-returns-3 c = record { verdict = cc; found = cc; qubit = cc }
+returns-3 c = rw (c .before .before .answer2 .given .1) (record { verdict = c .refused .ensures; found = refl; qubit = refl })
 
 pub support-spec : {M : Type 1} → statement M
 support-spec =

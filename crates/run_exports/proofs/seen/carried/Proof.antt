@@ -1,3 +1,4 @@
+use mathlib.Core.Path.{refl, _∙_}
 use Rattle.answers.specs.Answer.{valueOr}
 use borrow.Author.Needs.{needs}
 use Rattle.run_exports.proofs.seen.carried.Statement.{statement}
@@ -29,15 +30,15 @@ no-pauli-requires-2 c κs = search needs
 
 returns : tie.Need-returns
 unfolding valueOr
-returns c = record { verdict = cc; value = cc }
+returns c = rw (c .before .before .answer .given .1) (record { verdict = c .accepted .ensures; value = refl })
 
 returns-2 : tie.Need-returns-2
 unfolding valueOr
-returns-2 c = record { verdict = cc; value = cc }
+returns-2 c = rw (c .before .before .before .answer2 .given .1) (record { verdict = c .no-pauli .ensures .0 ∙ c .before .refused .ensures; value = c .no-pauli .ensures .1 })
 
 returns-3 : tie.Need-returns-3
 unfolding valueOr
-returns-3 c = record { verdict = cc; value = cc }
+returns-3 c = rw (c .before .before .before .answer3 .given .1) (record { verdict = c .no-pauli2 .ensures .0 ∙ c .before .refused-at .ensures; value = c .no-pauli2 .ensures .1 })
 
 pub carried-spec : {M : Type 1} → statement M
 carried-spec =

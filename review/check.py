@@ -22,7 +22,8 @@ TESTS = {"pauli_calls", "kernel_calls", "run_calls"}  # text in, text out: libra
 RESULTS = set("""
 product-acts anticommute commute identity-product product-identity product-assoc hermitian-square sign-phase raised-acts dropped-acts
 support-some support-none letter-set letter-kept coefficient-kept exact round-trip read-text conserved running-kept carrying-kept frame
-run-exact book starred source-only open-drop seen-tells read-tells qubit-tells
+run-exact book starred printed constants survey-most survey-most-scratch source-only open-drop seen-tells read-tells qubit-tells
+default-top listed-run listed-refusal listed-count fresh-first fresh-others
 """.split())
 found = []
 
@@ -37,7 +38,8 @@ def short(path):
 
 # ---- open calls
 
-FUNCTION = re.compile(r"^ *pub (?:extern \"C\" )?fn (\w+)\s*(?:<[^>]*>)?\((.*?)\)\s*(?:->\s*[^\n{]+?)?\s*\n((?:\s*(?:requires|ensures)[^\n]*\n)*)", re.S | re.M)
+# Its clauses stand between the signature and a line that is a brace; a call without any has its brace on the signature's last line.
+FUNCTION = re.compile(r"^ *pub (?:extern \"C\" )?fn (\w+)\s*(?:<[^>]*>)?\((.*?)\)\s*(?:->\s*[^\n{]+?)?\s*(?:\{\n|\n(.*?)^ *\{\n)", re.S | re.M)
 
 
 def open_calls():

@@ -127,6 +127,7 @@ def is_pauli(p):
 
 
 def is_hermitian(p):
+    refuse(3, not p.fits())
     return str(int(p.hermitian()))
 
 

@@ -5,6 +5,8 @@
     runs.py write CRATES                 stdin and stdout of CRATES/run_limits and CRATES/frame_replay
     runs.py fuzz PROGRAM SEED COUNT      COUNT random calls asked of PROGRAM (target/bin/run_limits) as well:
                                          the first line that differs, or how many answers of each kind agree
+    runs.py bench < run > text           what the program `bench` prints of a run
+    runs.py listings PROGRAM SEED COUNT  COUNT random runs given to PROGRAM (target/bin/bench) as well, and compared so
 
 Written from the scope's text (document 01), which the comments quote, without
 the Rattle's definitions of runs; its writer had seen the Rattle code of reader
@@ -15,7 +17,7 @@ A call is its name, a run, numbers (masks after 0x), then the lent buffers as in
 model.py, a bar before each. A run is hexadecimal digits in pieces with commas
 between; `3*` before a piece stands for three of it.
 
-    field RUN at                    the field there: tag, where the next begins, body; or `cut` and no body
+    field RUN at                    the field there: tag, where the next begins, body; or the refusal and no body
     start RUN limit                 the first field's width, or `none`
     step RUN at width limit         the step read there and the cursor behind it, or `end`
     check RUN                       last width, steps, greatest width, amplitudes that the scratch must hold
@@ -52,20 +54,26 @@ class RefusedAt(Exception):
 
 
 def field(run, at):
-    """One-byte tag, two-byte body length, body, little-endian; None where it is cut."""
+    """One-byte tag, two-byte body length, body, little-endian. A run over 65,536 bytes is
+    refused before its fields, at 0; a cut field at its tag."""
+    if len(run) > LONGEST:
+        raise RefusedAt(14, 0)
     if len(run) < at + 3:
-        return None
+        raise RefusedAt(14, at)
     tag, size = struct.unpack_from("<BH", run, at)
     behind = at + 3 + size
-    return None if len(run) < behind else (tag, run[at + 3 : behind], behind)
+    if len(run) < behind:
+        raise RefusedAt(14, at)
+    return tag, run[at + 3 : behind], behind
 
 
 def start(run, limit):
-    """Tag 1, length 1, n in 0..12; None where the run begins with something else."""
-    found = field(run, 0)
-    if found and found[0] == 1 and len(found[1]) == 1 and found[1][0] <= limit:
-        return found[1][0]
-    return None
+    """Tag 1, length 1, n in 0..12; None where the run is too long or begins with something else."""
+    try:
+        tag, body, _ = field(run, 0)
+    except RefusedAt:
+        return None
+    return body[0] if tag == 1 and len(body) == 1 and body[0] <= limit else None
 
 
 def step_of(tag, body, width, limit):
@@ -100,11 +108,11 @@ LENGTHS = {2: 34, 3: 16, 4: 27, 5: 17}
 
 
 def read(run, at, width, limit):
-    """The step at `at` and the cursor behind it; None for a step at the end field."""
-    found = field(run, at)
-    if found is None:
+    """The step at `at` and the cursor behind it; None for a step at the end field. No run leads to
+    a width over the limit: a field there stands in a wrong place."""
+    tag, body, behind = field(run, at)
+    if width > limit:
         raise RefusedAt(14, at)
-    tag, body, behind = found
     if tag == 6 and not body:
         return None, behind, width
     if LENGTHS.get(tag) != len(body):
@@ -118,8 +126,6 @@ def read(run, at, width, limit):
 
 def walk(run):
     """The start width and the steps, each with the offset of its tag."""
-    if len(run) > LONGEST:
-        raise RefusedAt(14, 0)
     first = start(run, WIDEST)
     if first is None:
         raise RefusedAt(14, 0)
@@ -290,8 +296,11 @@ def told_check(run):
 
 
 def told_field(run, at):
-    found = field(run, at)
-    return "cut []" if found is None else f"{found[0]} {found[2]} [{found[1].hex()}]"
+    try:
+        tag, body, behind = field(run, at)
+    except RefusedAt as refusal:
+        return f"{refused(refusal)} []"
+    return f"{tag} {behind} [{body.hex()}]"
 
 
 def told_start(run, limit):
@@ -477,15 +486,15 @@ def fields(lines):
     text = spelled(*run)
     for at in (0, 1, 4, 5, 24, 25, 26, 27, 28, 29, 30, 31, 32, 33):
         lines.ask(f"field {text} {at}")
-    lines.ask(f"field {text} {2**64 - 1}", "cut []")
-    lines.ask(f"field {text} {2**64 - 3}", "cut []")
-    lines.ask(f"field {spelled()} 0", "cut []")
+    for at in (2**64 - 1, 2**64 - 3):
+        lines.ask(f"field {text} {at}", f"refused 14 at {at} []")
+    lines.ask(f"field {spelled()} 0", "refused 14 at 0 []")
     lines.say("A field cut in its header, and by one byte of its body; a body of two bytes' length.")
-    lines.ask("field 06 0", "cut []")
-    lines.ask("field 0600 0", "cut []")
+    lines.ask("field 06 0", "refused 14 at 0 []")
+    lines.ask("field 0600 0", "refused 14 at 0 []")
     lines.ask("field 060000 0", "6 3 []")
-    lines.ask("field 060100 0", "cut []")
-    lines.ask("field 090001,255*ab 0", "cut []")
+    lines.ask("field 060100 0", "refused 14 at 0 []")
+    lines.ask("field 090001,255*ab 0", "refused 14 at 0 []")
     lines.ask("field 090001,256*ab 0", f"9 259 [{'ab' * 256}]")
 
 
@@ -517,10 +526,11 @@ def reads(lines):
     lines.say("At the start field, inside a field, at the end, past it, at the largest place.")
     for at in (0, 1, 5, 142, 143, 144, 2**64 - 2, 2**64 - 1):
         lines.ask(f"step {text} {at} 2 12", f"refused 14 at {at}")
-    lines.say("Widths 0 to 13 at each field, and a limit of 2 and of 3 at the promotion.")
+    lines.say("Widths 0 to 12 at each field, 13 past the limit, and a limit of 2 and of 3 at the promotion.")
     for at in (4, 41, 60, 90, 110, 140):
-        for width in (0, 1, 2, 3, 11, 12, 13):
+        for width in (0, 1, 2, 3, 11, 12):
             lines.ask(f"step {text} {at} {width} 12")
+        lines.ask(f"step {text} {at} 13 12", f"refused 14 at {at}")
     lines.ask(f"step {text} 41 2 2", "refused 15 at 41")
     lines.ask(f"step {text} 41 2 3", f"promotion {shown(0.6)} {shown(0.8)} 60 3")
     lines.ask(f"step {text} 41 0 0", "refused 15 at 41")
@@ -528,10 +538,20 @@ def reads(lines):
     lines.ask(f"step {text} 41 60 300", f"promotion {shown(0.6)} {shown(0.8)} 60 61")
     for width, row in ((61, 6), (256, 6), (257, 3), (300, 3)):
         lines.ask(f"step {text} 41 {width} 300", f"refused {row} at 41")
-    lines.say("The width's rows come before 8 and 15.")
+    lines.say("The width's rows come before 8 and 15, and 14 for a width over the limit before them.")
     unfit = spelled(promoting(NAN, 0.8))
     for width, row in ((60, 8), (61, 6), (257, 3)):
-        lines.ask(f"step {unfit} 0 {width} 12", f"refused {row} at 0")
+        lines.ask(f"step {unfit} 0 {width} 300", f"refused {row} at 0")
+        lines.ask(f"step {unfit} 0 {width} 12", "refused 14 at 0")
+    lines.say("A cursor over its limit at a good field, at the end field, at a wrong one and past the run; the limit itself is taken.")
+    lines.ask(f"step {text} 90 2 1", "refused 14 at 90")
+    lines.ask(f"step {text} 90 2 2", "correction 2 3 0x2 0x1 110 2")
+    lines.ask(f"step {text} 140 1 0", "refused 14 at 140")
+    lines.ask(f"step {text} 140 1 1", "end 143 1")
+    for at in (0, 5, 143, 2**64 - 1):
+        lines.ask(f"step {text} {at} 2 1", f"refused 14 at {at}")
+    lines.ask(f"step {text} 140 {2**64 - 1} {2**64 - 2}", "refused 14 at 140")
+    lines.ask(f"step {text} 140 {2**64 - 1} {2**64 - 1}", f"end 143 {2**64 - 1}")
     lines.ask(f"step {text} 41 60 60", "refused 15 at 41")
     lines.ask(f"step {text} 41 61 61", "refused 6 at 41")
 
@@ -751,6 +771,18 @@ def lengths(lines):
     lines.ask(run_line(over, *state), "refused 14 at 0 |" + floats(state[0]) + " |" + floats(state[1]) + " | |")
     lines.ask(carry_line(over, 1, Z, LONGEST + 1), "refused 14 at 0 kept")
     lines.ask(carry_line(over, 300, (9, 9, 9), 0), "refused 14 at 0 kept")
+    lines.say("Their fields one by one: taken at 65,536 bytes, 14 at 0 wherever the cursor stands at 65,537.")
+    rotation = f"rotation 1 0 0x1 0x0 0 {shown(0.6)} {shown(0.8)} 41 1"
+    lines.ask(f"step {longest} 4 1 12", rotation)
+    lines.ask(f"step {longest} 65533 1 12", "end 65536 1")
+    lines.ask(f"step {longest} 4 13 12", "refused 14 at 4")
+    lines.ask(f"field {longest} 65533", "6 65536 []")
+    lines.ask(f"start {longest} 12", "1")
+    for at, width in ((4, 1), (4, 13), (5, 1), (65534, 1), (65537, 1), (2**64 - 1, 1)):
+        lines.ask(f"step {over} {at} {width} 12", "refused 14 at 0")
+    for at in (0, 4, 65534, 65537):
+        lines.ask(f"field {over} {at}", "refused 14 at 0 []")
+    lines.ask(f"start {over} 12", "none")
     lines.say("65,536 with a fault at the end, with one in the middle; 65,537 with one.")
     inner = (3244, correcting())
     lines.ask(check_line(starting(1), (17, rotating()), inner, correcting((4, 0, 0)), END), "refused 3 at 65513")
@@ -1138,6 +1170,42 @@ def fuzz(program, seed, count):
     return True
 
 
+# ----------------------------------------------------------------- the bench
+
+
+def listing(run):
+    """Starts from amplitude (1, 0) at basis 0, and prints `qubits` and the last width, then each basis
+    (decimal), re bits and im bits (16 lower-case hexadecimal digits, any NaN as 7ff8000000000000); or
+    `refused N`."""
+    sizes = 2**WIDEST, 2**WIDEST, 2 ** (WIDEST - 1), 2 ** (WIDEST - 1)
+    re, im, *scratch = ([0.0] * size for size in sizes)
+    re[0] = 1.0
+    try:
+        width, _ = run_whole(run, re, im, *scratch)
+    except (Refused, RefusedAt) as refusal:
+        return f"refused {refusal.args[0]}\n"
+    return f"qubits {width}\n" + "".join(f"{b} {shown(re[b])} {shown(im[b])}\n" for b in range(2**width))
+
+
+def listings(program, seed, count):
+    """As many runs of each kind as agree, or the first whose listing differs."""
+    rng, kinds = random.Random(seed), {}
+    for _ in range(count):
+        n = rng.choice([0, 1, 2, 3, 4, 5, 6, 7, 8, 11, 12])
+        _, run = random_text(rng, n, max(n, rng.choice([2, 4, 7, 12])))
+        wanted = listing(run)
+        got = subprocess.run([program], input=run, capture_output=True, check=True).stdout.decode()
+        if got != wanted:
+            print(f"differs\n{run.hex()}\nmodel:\n{wanted}program:\n{got}")
+            return False
+        kind = wanted.split("\n")[0]
+        kinds[kind] = kinds.get(kind, 0) + 1
+    print(f"{count} listings agree")
+    for kind, times in sorted(kinds.items()):
+        print(f"  {kind}: {times}")
+    return True
+
+
 def write(crates):
     for name, lines in (("run_limits", limits()), ("frame_replay", replay())):
         for file, texts in (("stdin", lines), ("stdout", map(answer, lines))):
@@ -1151,6 +1219,10 @@ if __name__ == "__main__":
         write(*rest)
     elif command == "fuzz":
         sys.exit(not fuzz(rest[0], int(rest[1]), int(rest[2])))
+    elif command == "bench":
+        sys.stdout.write(listing(sys.stdin.buffer.read()))
+    elif command == "listings":
+        sys.exit(not listings(rest[0], int(rest[1]), int(rest[2])))
     else:
         for line in sys.stdin:
             print(answer(line.rstrip("\n")))

@@ -54,7 +54,7 @@ impl Comparison<'_> {
             theirs,
         } = &mut self.sides;
         let refused = rows::rotation(modelled(p), c, s, before.re.len(), before.im.len());
-        let answer = here::rotate(&mut ours.re, &mut ours.im, p, sign, c, s);
+        let answer = here::rotate(&mut ours.re, &mut ours.im, p, sign.into(), c, s);
         let rust = try_of(&to_rust(&widened(p)), |t| {
             let kernel = rotation_kernel(t, turn)?;
             let dim = 1 << p.nqubits;
@@ -115,7 +115,7 @@ impl Comparison<'_> {
         let Sides { before, ours, .. } = &mut self.sides;
         let Buffers { re, im, .. } = before;
         let refused = rows::probability(modelled(pauli), pivot, re.len(), im.len());
-        let answer = here::probability(&ours.re, &ours.im, pauli, pivot, branch);
+        let answer = here::probability(&ours.re, &ours.im, pauli, pivot, branch.into());
         let rust = try_of(&to_rust(&widened(pauli)), |t| {
             let kernel = measurement_kernel(t, pivot)?;
             Ok(match kernel.is_diagonal {
@@ -158,7 +158,7 @@ impl Comparison<'_> {
             &mut ours.scratch_im,
             pauli,
             pivot,
-            branch,
+            branch.into(),
             invnorm,
         );
         let rust = try_of(&to_rust(&widened(pauli)), |t| {

@@ -268,13 +268,13 @@ fn set_past_the_mask() -> Answers {
         each.join(" ")
     };
     let mut ours = [0; 4];
-    here::set_packed_bit(&mut ours, 256, true);
+    let answer = here::set_packed_bit(&mut ours, 256, 1);
     let theirs = asked(|| {
         let mut theirs = vec![0; 4];
         ticit::set_packed_bit(&mut theirs, 256, true);
         text(&theirs)
     });
-    (heard(theirs), text(&ours))
+    (heard(theirs), told(answer.map(|()| text(&ours))))
 }
 
 /// Z on qubit 0 of 61, 62 and 63 qubits.
@@ -358,7 +358,7 @@ fn projection(p: ActivePauli, state: &[f64], invnorm: f64) -> Answers {
         Ok(amplitudes(&re[..outputs], &im[..outputs]))
     });
     let (mut re, mut im) = (state.to_vec(), zeros.clone());
-    let ours = here::project(&mut re, &mut im, &mut [], &mut [], p, 0, false, invnorm);
+    let ours = here::project(&mut re, &mut im, &mut [], &mut [], p, 0, 0, invnorm);
     (heard(theirs), refusal_of(ours, [state, &zeros], [&re, &im]))
 }
 
@@ -376,7 +376,7 @@ fn short_rotation() -> Answers {
     let rotated = (0..3).filter(|&b| re[b] != before_re[b] && im[b] != before_im[b]);
     let theirs = format!("{} after {} entries", heard(theirs), rotated.count());
     let (mut re, mut im) = (before_re, before_im);
-    let ours = here::rotate(&mut re, &mut im, p, false, 0.6, 0.8);
+    let ours = here::rotate(&mut re, &mut im, p, 0, 0.6, 0.8);
     (
         theirs,
         refusal_of(ours, [&before_re, &before_im], [&re, &im]),
@@ -403,7 +403,7 @@ fn short_scratch() -> Answers {
         Ok("done")
     });
     let (mut re, mut im) = (before, before);
-    let ours = here::project(&mut re, &mut im, &mut [], &mut [], p, 0, false, 1.0);
+    let ours = here::project(&mut re, &mut im, &mut [], &mut [], p, 0, 0, 1.0);
     (
         heard(theirs),
         refusal_of(ours, [&before, &before], [&re, &im]),

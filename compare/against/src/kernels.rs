@@ -59,12 +59,9 @@ pub fn single(tally: &mut Tally, p: ActivePauli, q: usize, exponent: u8) {
     let row_at_qubit = lowest(&[(row != 0, row), (q >= p.nqubits, 5)]);
     let id = |row| id_of(row, p);
     let input = || format!("{p:x?}, qubit {q}, exponent {exponent}");
-    // Answers for anything: no row.
     let hermitian = of(&theirs, pauli_squares_to_identity);
-    if let Theirs::Accepted(_) = hermitian {
-        let ours = Ok(here::active_is_hermitian(p));
-        tally.plain(Call::ActiveIsHermitian, 0, ours, hermitian, id, input);
-    }
+    let ours = here::active_is_hermitian(p);
+    tally.plain(Call::ActiveIsHermitian, row, ours, hermitian, id, input);
     let raised = of(&theirs, |t| {
         let mut t = t.clone();
         t.phase_shift(exponent.into());

@@ -93,7 +93,9 @@ fn set_packed_bit(tally: &mut Tally, words: [u64; 4], bit: usize, value: bool) {
     let call = Call::SetPackedBit;
     let input = || format!("{words:x?}, bit {bit}, {value}");
     let mut ours = words;
-    here::set_packed_bit(&mut ours, bit, value);
+    if let Err(refusal) = here::set_packed_bit(&mut ours, bit, value.into()) {
+        return tally.report(call, &format!("{refusal:?}"), &input());
+    }
     if bit > 255 && ours != words {
         return tally.report(call, "a bit past the mask was set", &input());
     }
@@ -171,7 +173,7 @@ pub fn at_qubit(tally: &mut Tally, p: PauliString, q: usize, code: usize) {
     tally.plain(
         Call::Set,
         row,
-        here::set(p, q, code & 1 != 0, code & 2 != 0),
+        here::set(p, q, (code & 1) as u8, (code >> 1) as u8),
         of(&theirs, letter_set),
         id,
         input,

@@ -4,7 +4,7 @@
 use crate::convert::{active, row_of};
 use crate::floats;
 use crate::lent::Lender;
-use crate::numbers::{any_active, any_measured, any_wide, any_width};
+use crate::numbers::{any_active, any_flag, any_measured, any_wide, any_width};
 use crate::outcomes::Outcomes;
 use crate::patterns::same_but_nan;
 use crate::state::{Buffers, Contents, patterns};
@@ -159,11 +159,12 @@ fn size(n: usize) -> usize {
 
 fn rotate(lender: &Lender, dice: &mut Dice, seen: &mut Outcomes) {
     let (p, c, s) = (any_active(dice), any_unit(dice), any_unit(dice));
-    let sign = dice.flip();
+    let sign = any_flag(dice);
     let mut loan = Loan::of(lender, dice, p.n);
     let [re, im, ..] = &mut loan.buffers.0;
     let answered = naribhush::rotate(re, im, active(p), sign, c, s);
     let row = rows::rotation(p, c, s, loan.lengths[0], loan.lengths[1]);
+    let row = rows::flagged(row, sign);
     let input = format!("{p:?}, sign {sign}, {c:e} {s:e}");
     let written = [size(p.n), size(p.n), 0, 0];
     loan.check(seen, "rotate", &answered, row, written, &input);
@@ -188,7 +189,7 @@ fn promote(lender: &Lender, dice: &mut Dice, seen: &mut Outcomes) {
 }
 
 fn project(lender: &Lender, dice: &mut Dice, seen: &mut Outcomes) {
-    let ((p, pivot), branch) = (any_measured(dice), dice.flip());
+    let ((p, pivot), branch) = (any_measured(dice), any_flag(dice));
     let invnorm = match dice.once_in(8) {
         true => floats::any(dice),
         false => floats::invnorm(dice),
@@ -201,6 +202,7 @@ fn project(lender: &Lender, dice: &mut Dice, seen: &mut Outcomes) {
     );
     let [re, im, scratch_re, scratch_im] = loan.lengths;
     let row = rows::projection(p, pivot, invnorm, [re, im], [scratch_re, scratch_im]);
+    let row = rows::flagged(row, branch);
     let input = format!("{p:?}, pivot {pivot}, branch {branch}, invnorm {invnorm:e}");
     // The upper half stays, and the scratch of a Pauli without an X part.
     let half = size(p.n.saturating_sub(1));
@@ -210,11 +212,12 @@ fn project(lender: &Lender, dice: &mut Dice, seen: &mut Outcomes) {
 }
 
 fn probability(lender: &Lender, dice: &mut Dice, seen: &mut Outcomes) {
-    let ((p, pivot), branch) = (any_measured(dice), dice.flip());
+    let ((p, pivot), branch) = (any_measured(dice), any_flag(dice));
     let loan = Loan::of(lender, dice, p.n);
     let [re, im, ..] = &loan.buffers.0;
     let answered = naribhush::probability(re, im, active(p), pivot, branch);
     let row = rows::probability(p, pivot, loan.lengths[0], loan.lengths[1]);
+    let row = rows::flagged(row, branch);
     let input = format!("{p:?}, pivot {pivot}, branch {branch}");
     let verdict = answered.map(|_| ());
     loan.check(seen, "probability", &verdict, row, [0; 4], &input);

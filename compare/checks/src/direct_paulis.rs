@@ -4,14 +4,15 @@
 use crate::convert::active;
 use crate::lent::Lender;
 use crate::numbers::{
-    any_active, any_partner, any_qubit, any_size, any_text, any_wide, any_width, on_qubits,
+    any_active, any_flag, any_partner, any_qubit, any_size, any_text, any_wide, any_width,
+    on_qubits,
 };
 use crate::outcomes::Outcomes;
 use crate::patterns::filling_bytes;
 use crate::wide::{self, of_pauli, of_qubit, unless};
 use model::dice::Dice;
 use model::pauli::Pauli;
-use model::rows::lowest;
+use model::rows::{flagged, lowest};
 
 pub fn call_all(lender: &Lender, dice: &mut Dice, seen: &mut Outcomes) {
     bits(dice, seen);
@@ -39,13 +40,16 @@ fn bits(dice: &mut Dice, seen: &mut Outcomes) {
     seen.holds("is_odd_popcount", "parity", right, input);
 
     let words: [u64; 4] = std::array::from_fn(|_| dice.word());
-    let (at, value) = (any_qubit(dice, 256), dice.flip());
+    let (at, value) = (any_qubit(dice, 256), any_flag(dice));
     let input = || format!("{words:x?}, bit {at}, {value}");
     let right = naribhush::packed_bit(&words, at) == wide::bit(&words, at);
     seen.holds("packed_bit", "the bit", right, input);
     let (mut set, mut expected) = (words, words);
-    naribhush::set_packed_bit(&mut set, at, value);
-    wide::set_bit(&mut expected, at, value);
+    let answered = naribhush::set_packed_bit(&mut set, at, value);
+    let row = unless(flagged(0, value), || {
+        wide::set_bit(&mut expected, at, value == 1)
+    });
+    seen.answered("set_packed_bit", &answered, &row, input);
     seen.holds("set_packed_bit", "the words", set == expected, input);
 }
 
@@ -62,7 +66,7 @@ fn one_pauli(dice: &mut Dice, seen: &mut Outcomes) {
     });
 
     let p = any_wide(dice);
-    let (q, x, z) = (any_qubit(dice, p.nqubits), dice.flip(), dice.flip());
+    let (q, x, z) = (any_qubit(dice, p.nqubits), any_flag(dice), any_flag(dice));
     let input = || format!("{p:?}, qubit {q}, {x} {z}");
     let (has_x, has_z) = (wide::bit(&p.x, q), wide::bit(&p.z, q));
     let letter = usize::from(has_x) + 2 * usize::from(has_z);
@@ -171,13 +175,9 @@ fn one_active(dice: &mut Dice, seen: &mut Outcomes) {
     let answered = naribhush::active_raised(active(p), exponent);
     let expected = unless(of_pauli, || active(Pauli { k, ..p }));
     seen.answered("raised", &answered, &expected, input);
-    let hermitian = naribhush::active_is_hermitian(active(p));
-    seen.holds(
-        "is_hermitian",
-        "k minus the Ys is even",
-        hermitian == p.is_hermitian(),
-        input,
-    );
+    let answered = naribhush::active_is_hermitian(active(p));
+    let expected = unless(of_pauli, || p.is_hermitian());
+    seen.answered("active is_hermitian", &answered, &expected, input);
 }
 
 fn two_actives(dice: &mut Dice, seen: &mut Outcomes) {

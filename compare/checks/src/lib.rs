@@ -8,6 +8,7 @@ pub mod direct_paulis;
 pub mod draw;
 pub mod floats;
 pub mod lent;
+pub mod listings;
 pub mod mutate;
 pub mod numbers;
 pub mod offers;

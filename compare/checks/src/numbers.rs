@@ -35,6 +35,15 @@ pub fn any_qubit(dice: &mut Dice, n: usize) -> usize {
     }
 }
 
+/// A number for a bit: 0 or 1, most of the time.
+pub fn any_flag(dice: &mut Dice) -> u8 {
+    match dice.below(10) {
+        0 => dice.pick(&[2, 3, 128, 255]),
+        1 => dice.word() as u8,
+        _ => dice.below(2) as u8,
+    }
+}
+
 /// With one word a mask. Hermitian, most of the time.
 pub fn any_active(dice: &mut Dice) -> Pauli {
     let width = any_width(dice);

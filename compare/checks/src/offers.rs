@@ -4,6 +4,7 @@
 use crate::convert::{active, answer, ending, read, survey};
 use crate::draw;
 use crate::lent::Lender;
+use crate::listings::listing;
 use crate::mutate::bad_pauli;
 use crate::outcomes::Outcomes;
 use crate::patterns::{filling_bytes, hex};
@@ -22,6 +23,10 @@ pub fn offer(lender: &Lender, dice: &mut Dice, bytes: &[u8], seen: &mut Outcomes
     check(dice, &lent, seen);
     run(lender, dice, &lent, seen);
     carry(lender, dice, &lent, seen);
+    // Seldom: a listing can be 158,644 bytes long.
+    if dice.once_in(16) {
+        listing(lender, dice, &lent, seen);
+    }
     let input = || format!("run {}", hex(bytes));
     seen.holds(
         "a call",
@@ -103,7 +108,7 @@ fn check(dice: &mut Dice, bytes: &[u8], seen: &mut Outcomes) {
 // ------------------------------------------------------------------ running
 
 /// None, one too few, just enough, or more.
-fn length_about(dice: &mut Dice, needed: usize) -> usize {
+pub(crate) fn length_about(dice: &mut Dice, needed: usize) -> usize {
     match dice.below(8) {
         0 => 0,
         1 => needed.saturating_sub(1),

@@ -63,13 +63,15 @@ pub fn of_two<T>(a: PauliString, b: PauliString, value: impl FnOnce() -> T) -> A
     unless(row, value)
 }
 
-pub fn set(p: PauliString, q: usize, x: bool, z: bool) -> Answer<PauliString> {
-    of_qubit(p, q, || {
+/// The letter by its X and its Z part, each 0 or 1.
+pub fn set(p: PauliString, q: usize, x: u8, z: u8) -> Answer<PauliString> {
+    let row = lowest(&[(!is_pauli(p), 3), (q >= p.nqubits, 5), (x > 1 || z > 1, 14)]);
+    unless(row, || {
         let was_y = bit(&p.x, q) && bit(&p.z, q);
         let mut new = p;
-        set_bit(&mut new.x, q, x);
-        set_bit(&mut new.z, q, z);
-        let gained = u8::from(x && z) + 3 * u8::from(was_y);
+        set_bit(&mut new.x, q, x == 1);
+        set_bit(&mut new.z, q, z == 1);
+        let gained = x * z + 3 * u8::from(was_y);
         new.phase = (p.phase + gained) % 4;
         new
     })

@@ -94,6 +94,11 @@ pub fn projection(
     ])
 }
 
+/// 14 behind a call's own row: a sign, a branch or another bit that comes as a number, and is over 1.
+pub fn flagged(row: u8, flag: u8) -> u8 {
+    lowest(&[(row != 0, row), (flag > 1, 14)])
+}
+
 pub fn correction(p: Pauli, re: usize, im: usize) -> u8 {
     lowest(&[(!p.is_pauli(), 3), (p.n > 61, 6), (short(re, im, p.n), 13)])
 }

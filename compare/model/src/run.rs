@@ -307,8 +307,15 @@ pub struct Found {
     pub width: usize,
 }
 
-/// The field whose tag stands at `at`, the state having `width` qubits there.
+/// The field whose tag stands at `at`, the state having `width` qubits there. A run that is too long is refused before its
+/// fields; no run leads to a width over the limit, so a field there stands in a wrong place.
 pub fn read_at(bytes: &[u8], at: usize, width: usize, limit: usize) -> Result<Found, Refusal> {
+    if bytes.len() > LONGEST {
+        return Err(Refusal::at(14, 0));
+    }
+    if width > limit {
+        return Err(Refusal::at(14, at));
+    }
     let Some((tag, body)) = field_at(bytes, at) else {
         return Err(Refusal::at(14, at));
     };
@@ -402,6 +409,23 @@ mod tests {
         };
         assert_eq!(run.steps, [Step::Correction { pauli }]);
         assert_eq!(run.survey().steps, 1);
+    }
+
+    #[test]
+    fn cursors() {
+        let mut bytes = [start_field(1), end_field()].concat();
+        let end = Found {
+            step: None,
+            at: 7,
+            width: 1,
+        };
+        assert_eq!(read_at(&bytes, 4, 1, 1), Ok(end));
+        assert_eq!(read_at(&bytes, 4, 1, 0), Err(Refusal::at(14, 4)));
+        bytes.resize(LONGEST, 0);
+        assert_eq!(read_at(&bytes, 4, 1, 1), Ok(end));
+        bytes.push(0);
+        assert_eq!(read_at(&bytes, 4, 1, 1), Err(Refusal::at(14, 0)));
+        assert_eq!(read_at(&bytes, 4, 1, 0), Err(Refusal::at(14, 0)));
     }
 
     #[test]

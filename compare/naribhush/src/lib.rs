@@ -3,6 +3,7 @@
 //!
 //! An answer is a `Result`: the value, or the refusal. What the promises say of the fields that an answer
 //! does not use (a fixed value beside a refusal, 0 for a place that is none) is asserted on every call.
+//! Signs, branches and other bits go in as numbers, any of them, and come out as bools.
 
 use std::fmt::Debug;
 
@@ -206,12 +207,12 @@ unsafe extern "C" {
     fn naribhush_is_odd_popcount(value: u64) -> bool;
     fn naribhush_insert_zero_bit(packed: usize, bit: usize) -> Seen<usize>;
     fn naribhush_packed_bit(words: *const [u64; 4], bit_index: usize) -> bool;
-    fn naribhush_set_packed_bit(words: *mut [u64; 4], bit_index: usize, value: bool);
+    fn naribhush_set_packed_bit(words: *mut [u64; 4], bit_index: usize, value: u8) -> Verdict;
     fn naribhush_pauli_identity(nqubits: usize) -> Seen<PauliString>;
     fn naribhush_x_bit(pauli: PauliString, q: usize) -> Seen<bool>;
     fn naribhush_z_bit(pauli: PauliString, q: usize) -> Seen<bool>;
     fn naribhush_get(pauli: PauliString, q: usize) -> Seen<Parts>;
-    fn naribhush_set(pauli: PauliString, q: usize, x: bool, z: bool) -> Seen<PauliString>;
+    fn naribhush_set(pauli: PauliString, q: usize, x: u8, z: u8) -> Seen<PauliString>;
     fn naribhush_max_support(pauli: PauliString) -> Seen<Support>;
     fn naribhush_mul(lhs: PauliString, rhs: PauliString) -> Seen<PauliString>;
     fn naribhush_pauli_anticommutes(a: PauliString, b: PauliString) -> Seen<bool>;
@@ -223,7 +224,7 @@ unsafe extern "C" {
 
     fn naribhush_active_mul(lhs: ActivePauli, rhs: ActivePauli) -> Seen<ActivePauli>;
     fn naribhush_active_anticommutes(a: ActivePauli, b: ActivePauli) -> Seen<bool>;
-    fn naribhush_active_is_hermitian(pauli: ActivePauli) -> bool;
+    fn naribhush_active_is_hermitian(pauli: ActivePauli) -> Seen<bool>;
     fn naribhush_active_raised(pauli: ActivePauli, exponent: u8) -> Seen<ActivePauli>;
     fn naribhush_active_dropped(pauli: ActivePauli, q: usize) -> Seen<ActivePauli>;
     fn naribhush_active_x_bit(pauli: ActivePauli, q: usize) -> Seen<bool>;
@@ -233,10 +234,10 @@ unsafe extern "C" {
     fn naribhush_rotation_kernel(pauli: ActivePauli, c: f64, s: f64) -> Seen<PrecomputedActivePauliRotationKernel>;
     fn naribhush_from_pauli(pauli: ActivePauli) -> Seen<PrecomputedActivePauliMeasurementKernel>;
     fn naribhush_with_pivot(pauli: ActivePauli, pivot: usize) -> Seen<PrecomputedActivePauliMeasurementKernel>;
-    fn naribhush_rotate(re: *mut f64, re_len: usize, im: *mut f64, im_len: usize, pauli: ActivePauli, sign: bool, c: f64, s: f64) -> Verdict;
+    fn naribhush_rotate(re: *mut f64, re_len: usize, im: *mut f64, im_len: usize, pauli: ActivePauli, sign: u8, c: f64, s: f64) -> Verdict;
     fn naribhush_promote(re: *mut f64, re_len: usize, im: *mut f64, im_len: usize, nqubits: usize, c: f64, q: f64) -> Verdict;
-    fn naribhush_probability(re: *const f64, re_len: usize, im: *const f64, im_len: usize, pauli: ActivePauli, pivot: usize, branch: bool) -> Seen<f64>;
-    fn naribhush_project(re: *mut f64, re_len: usize, im: *mut f64, im_len: usize, scratch_re: *mut f64, scratch_re_len: usize, scratch_im: *mut f64, scratch_im_len: usize, pauli: ActivePauli, pivot: usize, branch: bool, invnorm: f64) -> Verdict;
+    fn naribhush_probability(re: *const f64, re_len: usize, im: *const f64, im_len: usize, pauli: ActivePauli, pivot: usize, branch: u8) -> Seen<f64>;
+    fn naribhush_project(re: *mut f64, re_len: usize, im: *mut f64, im_len: usize, scratch_re: *mut f64, scratch_re_len: usize, scratch_im: *mut f64, scratch_im_len: usize, pauli: ActivePauli, pivot: usize, branch: u8, invnorm: f64) -> Verdict;
     fn naribhush_correct(re: *mut f64, re_len: usize, im: *mut f64, im_len: usize, pauli: ActivePauli) -> Verdict;
 
     fn naribhush_read(run: *const u8, len: usize, at: usize, width: usize, limit: usize) -> Seen<Read>;
@@ -244,6 +245,7 @@ unsafe extern "C" {
     fn naribhush_check_within(run: *const u8, len: usize, limit: usize) -> Seen<Survey>;
     fn naribhush_run(run: *const u8, len: usize, re: *mut f64, re_len: usize, im: *mut f64, im_len: usize, scratch_re: *mut f64, scratch_re_len: usize, scratch_im: *mut f64, scratch_im_len: usize) -> SeenEnding;
     fn naribhush_carry(run: *const u8, len: usize, pauli: ActivePauli, out: *mut u8, out_len: usize) -> Seen<ActivePauli>;
+    fn naribhush_listing(run: *const u8, len: usize, out: *mut u8, out_len: usize) -> Seen<usize>;
     fn naribhush_serve(ledger: Ledger, run: *const u8, len: usize, re: *mut f64, re_len: usize, im: *mut f64, im_len: usize, scratch_re: *mut f64, scratch_re_len: usize, scratch_im: *mut f64, scratch_im_len: usize) -> SeenServed;
 }
 
@@ -263,8 +265,8 @@ pub fn packed_bit(words: &[u64; 4], bit_index: usize) -> bool {
     unsafe { naribhush_packed_bit(words, bit_index) }
 }
 
-pub fn set_packed_bit(words: &mut [u64; 4], bit_index: usize, value: bool) {
-    unsafe { naribhush_set_packed_bit(words, bit_index, value) }
+pub fn set_packed_bit(words: &mut [u64; 4], bit_index: usize, value: u8) -> Answer<()> {
+    unsafe { naribhush_set_packed_bit(words, bit_index, value) }.answer(())
 }
 
 pub fn pauli_identity(nqubits: usize) -> Answer<PauliString> {
@@ -286,7 +288,7 @@ pub fn get(pauli: PauliString, q: usize) -> Answer<usize> {
 }
 
 /// The letter by its X and its Z part.
-pub fn set(pauli: PauliString, q: usize, x: bool, z: bool) -> Answer<PauliString> {
+pub fn set(pauli: PauliString, q: usize, x: u8, z: u8) -> Answer<PauliString> {
     unsafe { naribhush_set(pauli, q, x, z) }.answer()
 }
 
@@ -335,8 +337,8 @@ pub fn active_anticommutes(a: ActivePauli, b: ActivePauli) -> Answer<bool> {
     unsafe { naribhush_active_anticommutes(a, b) }.answer()
 }
 
-pub fn active_is_hermitian(pauli: ActivePauli) -> bool {
-    unsafe { naribhush_active_is_hermitian(pauli) }
+pub fn active_is_hermitian(pauli: ActivePauli) -> Answer<bool> {
+    unsafe { naribhush_active_is_hermitian(pauli) }.answer()
 }
 
 pub fn active_raised(pauli: ActivePauli, exponent: u8) -> Answer<ActivePauli> {
@@ -386,7 +388,7 @@ pub fn rotate(
     re: &mut [f64],
     im: &mut [f64],
     pauli: ActivePauli,
-    sign: bool,
+    sign: u8,
     c: f64,
     s: f64,
 ) -> Answer<()> {
@@ -425,7 +427,7 @@ pub fn probability(
     im: &[f64],
     pauli: ActivePauli,
     pivot: usize,
-    branch: bool,
+    branch: u8,
 ) -> Answer<f64> {
     let seen = unsafe {
         naribhush_probability(
@@ -449,7 +451,7 @@ pub fn project(
     scratch_im: &mut [f64],
     pauli: ActivePauli,
     pivot: usize,
-    branch: bool,
+    branch: u8,
     invnorm: f64,
 ) -> Answer<()> {
     let verdict = unsafe {
@@ -519,6 +521,12 @@ pub fn run_contiguous(
 pub fn carry_run(run: &[u8], pauli: ActivePauli, out: &mut [u8]) -> Answer<ActivePauli> {
     let seen =
         unsafe { naribhush_carry(run.as_ptr(), run.len(), pauli, out.as_mut_ptr(), out.len()) };
+    seen.answer()
+}
+
+/// What the program `bench` prints of a run, to the start of `out`.
+pub fn list_run(run: &[u8], out: &mut [u8]) -> Answer<usize> {
+    let seen = unsafe { naribhush_listing(run.as_ptr(), run.len(), out.as_mut_ptr(), out.len()) };
     seen.answer()
 }
 

@@ -7,9 +7,9 @@ ghost use mathlib.Core.Path.{_≡_};
 ghost use Prim.Native.Nat.{_<_};
 ghost use Rattle.bitlaws.specs.Opening.{dropBit};
 ghost use Rattle.bitlaws.specs.Parity.{overlap};
-ghost use Rattle.paulilaws.specs.Pauli.{fits, hermitian};
+ghost use Rattle.paulilaws.specs.Pauli.{fits};
 ghost use Rattle.paulis.specs.Calls.{bitCall};
-ghost use Rattle.pauligroup.specs.Calls.{productCall, anticommutesCall};
+ghost use Rattle.pauligroup.specs.Calls.{productCall, anticommutesCall, squaresCall};
 ghost use Rattle.activepauli.specs.Active.{activeOf, pauliTold, bitTold};
 ghost use Rattle.activepauli.specs.Calls.{raisedCall, droppedCall};
 
@@ -74,11 +74,14 @@ impl ActivePauli {
         ActiveBitAnswer::Bit((shared(self.x, other.z) + shared(self.z, other.x)) % 2 == 1)
     }
 
-    // Whether the operator is Hermitian, by its masks and phase alone.
-    pub fn is_hermitian(self) -> bool
-        ensures { λ r. ⌜ r ≡ hermitian (activeOf self) ⌝ }
+    // Whether the operator is Hermitian.
+    pub fn is_hermitian(self) -> ActiveBitAnswer
+        ensures { λ r. ⌜ bitTold r ≡ squaresCall (activeOf self) ⌝ }
     {
-        (self.phase % 2 + shared(self.x, self.z)) % 2 == 0
+        if !self.is_pauli() {
+            return ActiveBitAnswer::Refused(3);
+        }
+        ActiveBitAnswer::Bit((self.phase % 2 + shared(self.x, self.z)) % 2 == 0)
     }
 
     // Times i^exponent.

@@ -7,6 +7,7 @@ pub mod Matrix
 pub mod Operators
 pub mod Parts
 pub mod Letters
+pub mod Spelled
 pub mod Action
 pub mod Product
 pub mod Part
@@ -14,8 +15,10 @@ pub mod Diagonal
 pub mod Paired
 pub mod Turning
 pub mod Appending
+pub mod Standing
 pub mod Remaining
 pub mod Projector
+pub mod Group
 pub mod Halves
 pub mod Eigenspace
 pub mod Length

@@ -1,5 +1,6 @@
 pub mod Arithmetic
 pub mod Binary
+pub mod Constants
 pub mod Rotation
 pub mod Promotion
 pub mod Projection

@@ -19,3 +19,9 @@ unfoldable pub valueOr : {A : Type 0} → A → Answer A → A
 valueOr other (accepted a) = a
 valueOr other (refused n) = other
 valueOr other (refusedAt n i) = other
+
+-- whether a call is accepted: no row refuses it
+unfoldable pub isAccepted : {A : Type 0} → Answer A → Bool
+isAccepted (accepted a) = true
+isAccepted (refused n) = false
+isAccepted (refusedAt n i) = false

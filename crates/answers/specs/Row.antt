@@ -4,7 +4,7 @@ use mathlib.Core.Bool.{Bool, true, false}
 use Prim.Native.Nat.{ℕ, zero, suc, _<_}
 use native.Mathlib.Nat.{zero-lt-suc}
 use native.Mathlib.Omega.{arith}
-use Rattle.answers.specs.Answer.{Answer}
+use Rattle.answers.specs.Answer.{Answer, isAccepted}
 use Rattle.answers.specs.Answer.Answer.{accepted, refused, refusedAt}
 
 -- row n: where its test holds it is n, else the rows after it decide
@@ -96,6 +96,17 @@ module _ {A : Type 0} where
   unfolding answered
   accepted-row zero a b e = (refl, accepted-same e)
   accepted-row (suc r) a b e = absurd (refused-accepted (sym e))
+
+-- the value of an accepted answer
+pub record HasValue {A : Type 0} (a : Answer A) : Type 0 where
+  pub value : A
+  pub is : a ≡ accepted value
+
+pub accepted-value : {A : Type 0} (a : Answer A) → isAccepted a ≡ true → HasValue a
+unfolding isAccepted
+accepted-value (accepted v) e = record { value = v; is = refl }
+accepted-value (refused n) e = absurd (let z : _≡_ {A = ℕ} 0 1 = cc in omega arith)
+accepted-value (refusedAt n i) e = absurd (let z : _≡_ {A = ℕ} 0 1 = cc in omega arith)
 
 -- ---- a call that looks at its rows, is refused by the number r that they give, and else does its work
 

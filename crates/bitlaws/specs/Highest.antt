@@ -8,9 +8,10 @@ use native.Mathlib.Nat.{pow-suc, div-eq-of-lt-le}
 use native.Mathlib.Decide.{le-ind}
 use native.Mathlib.Omega.{arith}
 use lib.Dec.{eqb}
+use lib.Pow.{pow-pos}
 use borrow.Author.Tests.{eq-eqb, ne-eqb}
-use Rattle.bitlaws.specs.Order.{last-or-before}
-use Rattle.bitlaws.specs.Digit.{digit, set-or-clear, digit-above}
+use Rattle.bitlaws.specs.Order.{last-or-before, le-or-lt}
+use Rattle.bitlaws.specs.Digit.{digit, set-or-clear, digit-above, digits-same}
 
 -- the highest of the n lowest digits of a that is set, none where none is
 unfoldable pub highest : ℕ → ℕ → Option ℕ
@@ -82,6 +83,10 @@ none-set (suc n) a e r h =
     ⊎-elim (λ (s : r ≡ n). ap (λ (k : ℕ). digit k a) s ∙ clear) (λ (s : r < n). none-set n a (sym (step-clear n a clear) ∙ e) r s) (last-or-before h))
     (set-or-clear n a)
 
+-- so a mask of that width is 0
+pub none-zero : (n a : ℕ) → a < 2 ^ n → highest n a ≡ none → a ≡ 0
+none-zero n a small e = digits-same n a 0 small (pow-pos n) (λ i b. none-set n a e i b ∙ sym (digit-above 0 i 0 (pow-pos 0) (omega arith)))
+
 -- between two powers of two
 pub power-top : (n a q : ℕ) → q < n → 2 ^ q ≤ a → a < 2 ^ suc q → Top n a q
 unfolding digit
@@ -92,3 +97,8 @@ power-top n a q h low high =
 -- looking higher than the mask reaches finds no more
 pub highest-wider : (n m a : ℕ) → a < 2 ^ n → n ≤ m → highest m a ≡ highest n a
 highest-wider n m a h l = le-ind (λ (k : ℕ). highest k a ≡ highest n a) refl (λ k up e. step-clear k a (digit-above n k a h up) ∙ e) m l
+
+-- so all widths that the mask fits find the same
+pub highest-agree : (n m a : ℕ) → a < 2 ^ n → a < 2 ^ m → highest n a ≡ highest m a
+highest-agree n m a h k =
+    ⊎-elim (λ (l : n ≤ m). sym (highest-wider n m a h l)) (λ (l : m < n). highest-wider m n a k (omega arith)) (le-or-lt n m)

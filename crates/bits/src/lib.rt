@@ -1,17 +1,24 @@
-// Bits of one word (bits.rs, and insert_zero_bit of active.rs): the parity of a word, and a zero bit
-// opened in a basis index.
+// Bits of one word (bits.rs, and insert_zero_bit of active.rs): the parity of a word, its highest bit, and
+// a zero bit opened in a basis index.
 ghost use mathlib.Core.Path.{_≡_};
 ghost use lib.Dec.{eqb};
-ghost use Prim.Native.Nat.{_+_, _%_, _^_};
+ghost use Prim.Native.Nat.{_+_, _%_};
 ghost use Rattle.bitlaws.specs.Digit.{bitOf, digit};
-ghost use Rattle.bitlaws.specs.Opening.{openBit};
+ghost use Rattle.bitlaws.specs.Highest.{highest};
 ghost use Rattle.bitlaws.specs.Parity.{parity, overlap};
+ghost use Rattle.bits.specs.Highest.{highestTold};
 ghost use Rattle.bits.specs.Opening.{told, opening};
 
 // What opening a bit answers: the wider index, or the refusal's number.
 pub enum Opened {
     Index(usize),
     Refused(u8),
+}
+
+// Where a word's highest set bit stands; `Empty` where none is set.
+pub enum HighestBit {
+    Bit(usize),
+    Empty,
 }
 
 // Whether the count of ones in a word is odd.
@@ -50,12 +57,13 @@ pub fn insert_zero_bit(packed: usize, bit: usize) -> Opened
     Opened::Index((packed & low_mask) | ((packed & !low_mask) << 1))
 }
 
-// The same for any position: from bit 64 on there is nothing above to move.
-pub fn open_bit(packed: usize, bit: usize) -> usize
-    ensures { λ r. ⌜ r ≡ openBit bit packed % 2 ^ 64 ⌝ }
+// The highest set bit of a word, if it has one.
+pub fn highest_bit(word: u64) -> HighestBit
+    ensures { λ r. ⌜ highestTold r ≡ highest 64 word ⌝ }
 {
-    let Opened::Index(index) = insert_zero_bit(packed, bit) else {
-        return packed;
-    };
-    index
+    if word == 0 {
+        return HighestBit::Empty;
+    }
+    let place = 63 - u64::leading_zeros(word);
+    HighestBit::Bit(place as usize)
 }

@@ -1,14 +1,14 @@
 -- What carrying answers and leaves in the output, from what the check, the rows and the loop say. Assumes nothing.
 use mathlib.Core.Path.{_≡_, refl, sym, ap, _∙_}
 use mathlib.Core.List.{List, _++_}
-use mathlib.Core.Option.{none, some, Option·some-injective, Option·none-ne-some}
+use mathlib.Core.Option.{some, Option·some-injective}
 use Prim.Native.Nat.{ℕ, _≤_}
 use native.Mathlib.Omega.{arith}
 use lib.ListN.{length, take, drop, length-append}
 use lib.Seq.{take-length}
 use Rattle.answers.specs.Answer.{valueOr}
 use Rattle.answers.specs.Answer.Answer.{accepted, refused, refusedAt}
-use Rattle.answers.specs.Row.{refusing, passing}
+use Rattle.answers.specs.Row.{refusedAt-accepted, refusing, passing}
 use Rattle.paulilaws.specs.Pauli.{Pauli, mostQubits}
 use Rattle.framelaws.specs.Carrying.{carriedSteps, endPauli}
 use Rattle.framelaws.specs.Survey.{Survey}
@@ -34,8 +34,8 @@ module _ (limit : ℕ) (s : List ℕ) where
     starts = run-allowed limit s (runIn limit s) accepts .start
 
     -- a run that is checked has a start field
-    pub no-start : startWidth limit (fieldAt s 0) ≡ none → ⊥
-    no-start e = Option·none-ne-some _ (sym e ∙ starts)
+    pub no-start : runOf limit s ≡ refusedAt 14 0 → ⊥
+    no-start e = refusedAt-accepted (sym e ∙ accepts)
 
     start-width : (width : ℕ) → startWidth limit (fieldAt s 0) ≡ some width → width ≡ runIn limit s .width
     start-width width e = Option·some-injective _ _ (sym e ∙ starts)
@@ -73,7 +73,7 @@ module _ (limit : ℕ) (s : List ℕ) (Q : Pauli) (out : List ℕ) where
           record {
             small = small;
             read = accepts limit s checked;
-            fitting = known .0;
+            admitted = known .0;
             width = known .1 ∙ begins;
             room = rw whole (simp length-append (omega arith));
           }

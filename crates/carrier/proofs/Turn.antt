@@ -9,7 +9,7 @@ use types.Run.{OneOf}
 use denote.Enum.Declared.{tagOf}
 use Rattle.answers.specs.Answer.Answer.{accepted}
 use Rattle.paulilaws.specs.Pauli.{Pauli, mostQubits}
-use Rattle.paulilaws.specs.Fitting.{Fitting}
+use Rattle.paulilaws.specs.Fitting.{Admitted}
 use Rattle.amplitudelaws.specs.Step.{Step}
 use Rattle.amplitudelaws.specs.Step.Step.{rotation, promotion, projection, correction}
 use Rattle.framelaws.specs.Rows.{stepRow}
@@ -33,7 +33,7 @@ use Rattle.carrier.specs.Suited.{Suited}
 use Rattle.carrier.specs.Ready.{runIn, Ready}
 
 -- a step that no row refuses suits a Pauli on its qubits
-suited : (limit n : ℕ) (Q : Pauli) (t : Step Float) → Fitting Q → Q .n ≡ n → Placed n t → stepRow limit n t ≡ 0 → Suited Q t
+suited : (limit n : ℕ) (Q : Pauli) (t : Step Float) → Admitted Q → Q .n ≡ n → Placed n t → stepRow limit n t ≡ 0 → Suited Q t
 unfolding stepRow
 suited limit n Q (rotation P sign c s) f width placed e = record {
   first = f;
@@ -68,8 +68,8 @@ outset limit s Q out r =
     record {
       steps = R .steps;
       left = subst (Left limit s (record { at = 4; width = Q .n })) (ap (λ (n : ℕ). walk limit (length s) s (record { at = 4; width = n })) (r .width) ∙ a .walked)
-          (left-outset limit s (record { at = 4; width = Q .n }) (a .begins));
-      fitted = record { fitting = r .fitting; width = refl; within = omega (arith, a .width, r .width) };
+          (left-outset limit s (record { at = 4; width = Q .n }) (a .short) (a .begins));
+      fitted = record { fitting = r .admitted .fitting; width = refl; within = omega (arith, a .width, r .width) };
       ends = refl;
       writes = refl;
       room = r .room;
@@ -77,8 +77,11 @@ outset limit s Q out r =
 
 module _ {limit : ℕ} {s : List ℕ} {last : Pauli} {all : List ℕ} {c : Cursor} {Q : Pauli} {out : List ℕ} (w : Carrying limit s last all c Q out) where
   module _ (t : Step Float) (d : Cursor) (e : readAt limit s c ≡ stepRead t d) where
-    pub step-suited : Suited Q t
-    step-suited = let r = step-read limit s c d t e in suited limit (c .width) Q t (w .fitted .fitting) (w .fitted .width) (r .placed) (r .row)
+    pub step-suited : limit ≤ mostQubits → Suited Q t
+    step-suited small =
+        let r = step-read limit s c d t e in
+        let f = w .fitted in
+        suited limit (c .width) Q t (record { fitting = f .fitting; width = omega (arith, f .width, f .within) }) (f .width) (r .placed) (r .row)
 
     -- the step's field is in the output
     pub step-room : c .at + fieldSize t ≤ length out
@@ -87,9 +90,9 @@ module _ {limit : ℕ} {s : List ℕ} {last : Pauli} {all : List ℕ} {c : Curso
     pub step-less : length s - d .at < length s - c .at
     step-less = let r = step-read limit s c d t e in omega (arith, r .next, r .inside, size-ge t)
 
-    turned : limit ≤ mostQubits → Carrying limit s last all d (passed Q t) (flagAt (c .at) (carriedStep Q t) out)
+    turned : Carrying limit s last all d (passed Q t) (flagAt (c .at) (carriedStep Q t) out)
     unfolding endPauli carriedSteps flagged
-    turned small =
+    turned =
         let r = step-read limit s c d t e in
         let k = accepted-step (w .left) t d e in
         let f = w .fitted in
@@ -98,7 +101,7 @@ module _ {limit : ℕ} {s : List ℕ} {last : Pauli} {all : List ℕ} {c : Curso
         record {
           steps = k .after;
           left = k .left;
-          fitted = rw (r .width) (fitting-passed limit (c .width) Q t small (f .within) (r .placed) (r .row) (f .fitting) (f .width));
+          fitted = rw (r .width) (fitting-passed limit (c .width) Q t (f .within) (r .placed) (r .row) (f .fitting) (f .width));
           ends = ap (endPauli Q) (sym (k .rest-is)) ∙ w .ends;
           writes = ap (λ (n : ℕ). flagged n (carriedSteps (passed Q t) (k .after)) one) next
               ∙ ap (λ (ts : List (Step Float)). flagged (c .at) (carriedSteps Q ts) out) (sym (k .rest-is))
@@ -106,9 +109,9 @@ module _ {limit : ℕ} {s : List ℕ} {last : Pauli} {all : List ℕ} {c : Curso
           room = rw (flag-length (c .at) (carriedStep Q t) out) (w .room);
         }
 
-    pub turn : limit ≤ mostQubits → (t' : Step Float) (Q' : Pauli) (out' : List ℕ) → t' ≡ carriedStep Q t → Q' ≡ passed Q t → out' ≡ flagAt (c .at) t' out
+    pub turn : (t' : Step Float) (Q' : Pauli) (out' : List ℕ) → t' ≡ carriedStep Q t → Q' ≡ passed Q t → out' ≡ flagAt (c .at) t' out
         → Carrying limit s last all d Q' out'
-    turn small t' Q' out' is passes writes = rw (writes, is, passes) (turned small)
+    turn t' Q' out' is passes writes = rw (writes, is, passes) turned
 
   all-passed : w .steps ≡ [] → (Q ≡ last) × (out ≡ all)
   unfolding endPauli carriedSteps flagged

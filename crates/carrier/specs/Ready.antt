@@ -6,7 +6,7 @@ use lib.ListN.{length}
 use Rattle.answers.specs.Answer.{valueOr}
 use Rattle.answers.specs.Answer.Answer.{accepted}
 use Rattle.paulilaws.specs.Pauli.{Pauli, mostQubits}
-use Rattle.paulilaws.specs.Fitting.{Fitting}
+use Rattle.paulilaws.specs.Fitting.{Admitted}
 use Rattle.runlaws.specs.Run.{Run, runOf}
 
 -- the run that the bytes are, one without steps where they are refused
@@ -17,6 +17,6 @@ runIn limit s = valueOr (record { width = 0; steps = [] }) (runOf limit s)
 pub record Ready (limit : ℕ) (s : List ℕ) (Q : Pauli) (out : List ℕ) : Type 0 where
   pub small : limit ≤ mostQubits
   pub read : runOf limit s ≡ accepted (runIn limit s)
-  pub fitting : Fitting Q
+  pub admitted : Admitted Q
   pub width : Q .n ≡ runIn limit s .width
   pub room : length s ≤ length out

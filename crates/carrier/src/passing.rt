@@ -10,7 +10,7 @@ ghost use Prim.Native.Nat.{_*_, _<_};
 ghost use Rattle.answers.specs.Answer.{valueOr};
 ghost use Rattle.bitlaws.specs.Digit.{bitOf};
 ghost use Rattle.paulilaws.specs.Pauli.{product, anti};
-ghost use Rattle.paulilaws.specs.Fitting.{Fitting};
+ghost use Rattle.paulilaws.specs.Fitting.{Admitted};
 ghost use Rattle.paulilaws.specs.Frame as frame;
 ghost use Rattle.activepauli.specs.Active.{activeOf, pauliTold, bitTold};
 ghost use Rattle.framelaws.specs.Carrying as list;
@@ -62,7 +62,7 @@ fn flipped(pauli: ActivePauli, other: ActivePauli, flag: bool) -> bool
 // Whether the Pauli has at the pivot what the measured one has there: an X part, or a Z part where
 // that has no X part anywhere.
 fn meets(measured: ActivePauli, pivot: usize, pauli: ActivePauli) -> bool
-    requires { ⌜ Fitting (activeOf pauli) × (pivot < pauli .nqubits) ⌝ }
+    requires { ⌜ Admitted (activeOf pauli) × (pivot < pauli .nqubits) ⌝ }
     ensures { λ r. ⌜ r ≡ list.meets (activeOf measured) pivot (activeOf pauli) ⌝ }
 {
     if measured.x == 0 {
@@ -81,7 +81,7 @@ fn times(left: ActivePauli, right: ActivePauli) -> ActivePauli
 
 // Times i^(2 flag).
 fn signed(pauli: ActivePauli, flag: bool) -> ActivePauli
-    requires { ⌜ Fitting (activeOf pauli) ⌝ }
+    requires { ⌜ Admitted (activeOf pauli) ⌝ }
     ensures { λ r. ⌜ activeOf r ≡ frame.raised (2 * bitOf flag) (activeOf pauli) ⌝ }
 {
     pauli_or(pauli.raised(2 * digit(flag)), pauli)

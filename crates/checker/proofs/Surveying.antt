@@ -21,9 +21,10 @@ use Rattle.framelaws.specs.Rows.{stepRow, projectionStepRow}
 use Rattle.amplitudelaws.specs.Step.{Step, widthAfter}
 use Rattle.amplitudelaws.specs.Step.Step.{rotation, promotion, projection, correction}
 use Rattle.framelaws.specs.Survey.{Survey, outset, surveyed, surveyFrom, survey}
+use Rattle.runlaws.specs.Field.{mostBytes}
 use Rattle.runlaws.specs.Reading.{Cursor, readAt}
 use Rattle.runlaws.specs.Reading.Read.{stepRead}
-use Rattle.runlaws.specs.Run.{mostBytes, mapped, ended, walk}
+use Rattle.runlaws.specs.Run.{mapped, ended, walk}
 use Rattle.runlaws.specs.Walk.{Left, left-outset, left-step, left-end, left-refused}
 use Rattle.runlaws.specs.Fields.{step-read, size-ge}
 use Rattle.runlaws.specs.Mapped.{mapped-mapped}
@@ -58,12 +59,12 @@ unfolding mapped surveyFrom
 end-answer v true at = refl
 end-answer v false at = refl
 
-pub at-start : (limit : ℕ) (s : List ℕ) (n : ℕ) → 4 ≤ length s
+pub at-start : (limit : ℕ) (s : List ℕ) (n : ℕ) → 4 ≤ length s → length s ≤ mostBytes
     → Surveying limit s (mapped (survey n) (walk limit (length s) s (record { at = 4; width = n }))) (record { at = 4; width = n }) (outset n)
 unfolding survey
-at-start limit s n h = record {
+at-start limit s n h short = record {
   rest = walk limit (length s) s (record { at = 4; width = n });
-  left = left-outset limit s (record { at = 4; width = n }) h;
+  left = left-outset limit s (record { at = 4; width = n }) short h;
   same = refl;
   few = omega arith;
   width = refl;
@@ -75,12 +76,12 @@ module _ {limit : ℕ} {s : List ℕ} {all : Answer Survey} {c : Cursor} {v : Su
     pub moves : (c .at < d .at) × (d .at ≤ length s)
     moves = let r = step-read limit s c d t e in (omega (arith, r .next, size-ge t), r .inside)
 
-    pub surveyable : length s ≤ mostBytes → Surveyable v t (d .width)
-    surveyable short =
+    pub surveyable : Surveyable v t (d .width)
+    surveyable =
         let r = step-read limit s c d t e in
         let m = moves in
         record {
-          few = omega (arith, k .few);
+          few = omega (arith, k .few, k .left .short);
           behind = r .width ∙ ap (λ (n : ℕ). widthAfter n t) (sym (k .width));
           measured = rw (k .width) (measured limit (c .width) t (r .placed) (r .row));
         }

@@ -10,9 +10,9 @@ use Rattle.amplitudelaws.specs.Rows.{widestKernel}
 use Rattle.amplitudelaws.specs.Step.{Step, widthAfter}
 use Rattle.amplitudelaws.specs.Step.Step.{rotation, promotion, projection, correction}
 use Rattle.framelaws.specs.Survey.{Survey}
+use Rattle.runlaws.specs.Field.{mostBytes}
 use Rattle.runlaws.specs.Reading.{Read}
 use Rattle.runlaws.specs.Reading.Read.{stepRead, endRead, refusedRead}
-use Rattle.runlaws.specs.Run.{mostBytes}
 
 -- a projection has a qubit to measure, and no more qubits than a kernel has
 abbrev pub Measured : ℕ → Step Float → Type 0
@@ -27,8 +27,9 @@ pub record Surveyable (v : Survey) (t : Step Float) (width : ℕ) : Type 0 where
   pub behind : width ≡ widthAfter (v .width) t
   pub measured : Measured (v .width) t
 
--- The answer to a read that is no step, in a run of `size` bytes with the survey v. A step is never asked about: any answer does.
+-- The answer to a read that is no step, in a run of `size` bytes with the survey v. A step is never asked about: the walk goes on behind it, and where
+-- it did not, a field that is no end would stand last.
 unfoldable pub endedBy : ℕ → Read → Survey → Answer Survey
-endedBy size (stepRead t c) v = refusedAt 0 0
+endedBy size (stepRead t c) v = refusedAt 14 (c .at)
 endedBy size (endRead c) v = cond (ltb (c .at) size) (refusedAt 14 (c .at)) (accepted v)
 endedBy size (refusedRead n at) v = refusedAt n at

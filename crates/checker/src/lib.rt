@@ -11,7 +11,8 @@ ghost use Prim.Native.Nat.{_≤_, max};
 ghost use lib.ListN.{length};
 ghost use Rattle.framelaws.specs.Survey.{survey, mixedAmplitudes};
 ghost use Rattle.framelaws.specs.Survey as list;
-ghost use Rattle.runlaws.specs.Run.{mapped, walk, mostBytes, widestRun};
+ghost use Rattle.runlaws.specs.Field.{mostBytes};
+ghost use Rattle.runlaws.specs.Run.{mapped, walk, widestRun};
 ghost use Rattle.runlaws.specs.Calls.{checking};
 ghost use Rattle.steps.specs.Meant.{stepOf, readTold};
 ghost use Rattle.checker.specs.Surveyed.{Measured, Surveyable, endedBy};
@@ -41,10 +42,8 @@ pub fn check_run(run: &[u8]) -> CheckAnswer
 pub fn check_within(run: &[u8], limit: usize) -> CheckAnswer
     ensures { λ r. ⌜ checkTold r ≡ checking limit (now (run .entry)) ⌝ }
 {
-    if 65536 < run.len() {
-        return CheckAnswer::Refused(14, 0);
-    }
     let StartAnswer::Width(width) = fields::start(run, limit) else {
+        // Too long, or without a start field within the limit.
         return CheckAnswer::Refused(14, 0);
     };
     survey_steps(run, width, limit)
@@ -86,7 +85,7 @@ fn ended(size: usize, got: Read, survey: Survey) -> CheckAnswer
             CheckAnswer::Run(survey)
         }
         // Never: the loop goes on behind a step.
-        Read::Step(_, _) => CheckAnswer::Refused(0, 0),
+        Read::Step(_, next) => CheckAnswer::Refused(14, next.at),
     }
 }
 

@@ -1,9 +1,12 @@
 // The amplitudes moved: each by itself where there is no X part, else in pairs that change places.
 use activepauli::ActivePauli;
+use bits::HighestBit;
+use bits::Opened;
 use complex::Complex64;
 ghost use mathlib.Core.Path.{_≡_};
 ghost use Prim.Native.Nat.{_+_, _*_, _%_, _≤_, _<_, _^_};
 ghost use lib.ListN.{length};
+ghost use Rattle.bitlaws.specs.Opening.{openBit};
 ghost use Rattle.bitlaws.specs.Parity.{overlap};
 ghost use Rattle.statelaws.specs.Pairs.{Pivoted};
 ghost use Rattle.amplitudelaws.specs.Arithmetic.{quarters};
@@ -16,11 +19,11 @@ pub(crate) fn correct(re: &mut [f64], im: &mut [f64], pauli: ActivePauli)
     requires { ⌜ (pauli .nqubits ≤ 61) × (pauli .x < 2 ^ (pauli .nqubits)) × (2 ^ (pauli .nqubits) ≤ length (now re)) × (2 ^ (pauli .nqubits) ≤ length (now im)) ⌝ }
     ensures { λ _. ⌜ stateOf (now (re .exit)) (now (im .exit)) ≡ written (pauli .nqubits) (corrected binary (activeOf pauli) (point (stateOf (now (re .entry)) (now (im .entry))))) (stateOf (now (re .entry)) (now (im .entry))) ⌝ }
 {
-    if pauli.x == 0 {
+    let HighestBit::Bit(pair_bit) = bits::highest_bit(pauli.x) else {
         correct_alone(re, im, pauli);
-    } else {
-        correct_pairs(re, im, pauli, kernels::highest_bit(pauli.x));
-    }
+        return;
+    };
+    correct_pairs(re, im, pauli, pair_bit);
 }
 
 fn correct_alone(re: &mut [f64], im: &mut [f64], pauli: ActivePauli)
@@ -67,13 +70,25 @@ fn correct_pairs(re: &mut [f64], im: &mut [f64], pauli: ActivePauli, pair_bit: u
     let half = 1usize << (pauli.nqubits - 1);
     let mut k = 0;
     while k < half {
-        let left = bits::open_bit(k, pair_bit);
+        let left = opened_at(k, pair_bit);
         let right = left ^ pauli.x as usize;
         let to_left = exponent(pauli.phase, right as u64, pauli.z);
         let to_right = exponent(pauli.phase, left as u64, pauli.z);
         exchange(re, im, left, right, to_left, to_right);
         k += 1;
     }
+}
+
+// The member of pair k that does not have the pair bit.
+fn opened_at(k: usize, pair_bit: usize) -> usize
+    requires { ⌜ «pair_bit» < 64 ⌝ }
+    ensures { λ r. ⌜ r ≡ openBit «pair_bit» k % 2 ^ 64 ⌝ }
+{
+    let Opened::Index(index) = bits::insert_zero_bit(k, pair_bit) else {
+        // Never: row 5 is for a bit over 63.
+        return k;
+    };
+    index
 }
 
 fn exchange(re: &mut [f64], im: &mut [f64], left: usize, right: usize, to_left: u8, to_right: u8)

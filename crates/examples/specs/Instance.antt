@@ -6,9 +6,10 @@ use mathlib.Core.List.{List, [], _∷_}
 use Prim.Native.Nat.{ℕ, zero, suc, _^_, _<_}
 use native.Mathlib.Omega.{arith}
 use lib.Count.{ones, onesIn}
-use lib.Dec.{T, lit≤}
+use lib.Dec.{T}
 use lib.Ieee.{Float, ofBits, neg, add, sub, mul, le}
 use lib.ListN.{length, take}
+use Rattle.answers.specs.Answer.{isAccepted}
 use Rattle.answers.specs.Answer.Answer.{accepted}
 use Rattle.answers.specs.Row.{row, first, answered, left, accepted-same}
 use Rattle.bitlaws.specs.Digit.{digit}
@@ -25,7 +26,7 @@ use Rattle.amplitudelaws.specs.Rotation.{rotationCoefficient, rotatedAlone, rot
 use Rattle.amplitudelaws.specs.Promotion.{raised as raisedQubit, promoted}
 use Rattle.amplitudelaws.specs.Projection.{minus, projectionCoefficient, remainingBy, remaining, projected}
 use Rattle.amplitudelaws.specs.Correction.{corrected}
-use Rattle.amplitudelaws.specs.Rows.{rotationKernelRow, measurementRow, hermitianRow, widthRow, unitRow, promotedWidthRow, pivotRow, pivotMask, roomRow}
+use Rattle.amplitudelaws.specs.Rows.{correctionRow, rotationKernelRow, measurementRow, hermitianRow, widthRow, unitRow, promotedWidthRow, pivotRow, pivotMask, roomRow}
 use Rattle.amplitudelaws.specs.State.{State, point, written, roomFor, room}
 use Rattle.amplitudelaws.specs.Steps as leaves
 use Rattle.framelaws.specs.Alike.{Finite}
@@ -42,7 +43,8 @@ use Rattle.runlaws.specs.Reading.{decoded, unless, judgedBy, judged, readField,
 use Rattle.runlaws.specs.Run.{Run, widestRun, mapped, ended, follow, walk, startWidth, begun, runOf}
 use Rattle.runlaws.specs.Flags.{fieldSize, flagAt, flagged}
 use Rattle.runlaws.specs.Calls.{Ending, Outcome, onRun, byRow, surveyOf, memoryRow, running, carryingRow, carriedRun, carrying}
-use Rattle.runlaws.specs.Theorem.{SameNumber, Agreeing, FiniteRun, fired, Frame, frame}
+use Rattle.runlaws.specs.Frame.{SameNumbers, Agreeing, FiniteRun, fired, sent, Frame}
+use Rattle.runlaws.specs.Theorem.{frame-at-the-service}
 use Rattle.examples.specs.Runs as bytes
 use Rattle.examples.specs.Runs.{one}
 
@@ -94,8 +96,8 @@ outcome = refl
 carries : carrying widestRun run Y output .answer ≡ accepted end
 carries = ap (λ (o : Outcome Pauli (List ℕ)). o .answer) outcome
 
-sent : take (length run) (carrying widestRun run Y output .lent) ≡ carried
-sent = ap (λ (o : Outcome Pauli (List ℕ)). take (length run) (o .lent)) outcome
+sent-is : sent widestRun run Y output ≡ carried
+sent-is = ap (λ (o : Outcome Pauli (List ℕ)). take (length run) (o .lent)) outcome
 
 runs-here : running widestRun run here .answer ≡ accepted ending
 unfolding running onRun byRow memoryRow surveyOf survey surveyFrom surveyed mixedAmplitudes roomFor room roomRow runOf begun startWidth mapped walk follow ended readAt readField judged judgedBy unless decoded fieldAt isWhole bodyLength number floatAt pauliAt fits hermitian coefficient ys widthAfter stepRow rotationStepRow promotionStepRow projectionStepRow rotationKernelRow measurementRow hermitianRow widthRow unitRow promotedWidthRow pivotRow pivotMask inUnit row first answered left le neg ofBits digit overlap parity ones onesIn
@@ -167,14 +169,22 @@ finite-run R e = subst (λ (r : Run). FiniteSteps (r .width) (r .steps) there) (
 
 -- ---- what comes of them
 
-met : Frame widestRun run carried Y end here there ending
-met = subst (λ (t : List ℕ). Frame widestRun run t Y end here there ending) sent (frame widestRun run output Y end here there ending (lit≤ tt) ending runs-here runs-there carries agreeing)
+met : Frame widestRun run output Y here there
+unfolding isAccepted
+met =
+    frame-at-the-service .accepts run output Y here there
+    (record { here = ap isAccepted runs-here; there = ap isAccepted runs-there; carries = ap isAccepted carries; start = agreeing })
+
+-- the last width is that of the end Pauli, which is answered
+ends-at : met .ending .width ≡ 1
+ends-at = sym (met .last) ∙ ap (λ (P : Pauli). P .n) (accepted-same (sym (met .ends) ∙ carries))
 
 -- the same number in both parts of both amplitudes
-numbers : (b : ℕ) → b < 2 ^ 1 → SameNumber (point (running widestRun run (fired Y here) .lent .state) b .re) (point (leaves.correction end (running widestRun carried there .lent .state)) b .re) × SameNumber (point (running widestRun run (fired Y here) .lent .state) b .im) (point (leaves.correction end (running widestRun carried there .lent .state)) b .im)
-numbers b h = met .same finite-run b h
+numbers : (b : ℕ) → b < 2 ^ 1
+    → SameNumbers (point (running widestRun run (fired Y here) .lent .state) b) (point (fired (met .end) (running widestRun (sent widestRun run Y output) there .lent) .state) b)
+numbers b h = met .same (subst (λ (t : List ℕ). FiniteRun widestRun t there) (sym sent-is) finite-run) b (rw ends-at h)
 
 -- and not all of them are zeros
 not-all-zeros : T (not (isZero (point (running widestRun run (fired Y here) .lent .state) 0 .im)))
-unfolding running onRun byRow memoryRow surveyOf survey surveyFrom surveyed mixedAmplitudes roomFor room roomRow runOf begun startWidth mapped walk follow ended readAt readField judged judgedBy unless decoded fieldAt isWhole bodyLength number floatAt pauliAt fits hermitian coefficient ys widthAfter stepRow rotationStepRow promotionStepRow projectionStepRow rotationKernelRow measurementRow hermitianRow widthRow unitRow promotedWidthRow pivotRow pivotMask inUnit row first answered left le neg ofBits digit overlap parity ones onesIn stepped leaves.rotation leaves.promotion leaves.projection leaves.correction leaves.scratchAfter leaves.scratchBy written point over rotated rotatedBy rotatedAlone rotatedWith rotationCoefficient promoted raisedQubit projected remaining remainingBy projectionCoefficient minus source corrected quarters power times conjugate direction negated scale scaled mixed openBit add sub mul ran
+unfolding running onRun byRow memoryRow surveyOf survey surveyFrom surveyed mixedAmplitudes roomFor room roomRow runOf begun startWidth mapped walk follow ended readAt readField judged judgedBy unless decoded fieldAt isWhole bodyLength number floatAt pauliAt fits hermitian coefficient ys widthAfter stepRow rotationStepRow promotionStepRow projectionStepRow rotationKernelRow measurementRow hermitianRow widthRow unitRow promotedWidthRow pivotRow pivotMask inUnit row first answered left le neg ofBits digit overlap parity ones onesIn stepped leaves.rotation leaves.promotion leaves.projection leaves.correction leaves.scratchAfter leaves.scratchBy written point over rotated rotatedBy rotatedAlone rotatedWith rotationCoefficient promoted raisedQubit projected remaining remainingBy projectionCoefficient minus source corrected quarters power times conjugate direction negated scale scaled mixed openBit add sub mul ran fired correctionRow
 not-all-zeros = tt

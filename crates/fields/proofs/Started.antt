@@ -1,12 +1,20 @@
--- What the answer of `start` says about the width that the first field gives. Assumes nothing.
+-- What the answer of `start` says about a run. Assumes nothing.
 use mathlib.Core.Path.{_≡_, refl, sym, ap, _∙_}
-use mathlib.Core.Option.{Option, none, some}
-use Prim.Native.Nat.{ℕ}
+use mathlib.Core.Bool.{Bool, true, false, cond}
+use mathlib.Core.List.{List}
+use mathlib.Core.Option.{Option, none, some, Option·none-ne-some}
+use Prim.Native.Nat.{ℕ, _≤_}
+use lib.Dec.{ltb}
+use lib.ListN.{length}
+use borrow.Author.Tests.{ltb-true, ltb-false}
 use Rattle.answers.specs.Answer.Answer.{accepted, refusedAt}
 use Rattle.answers.specs.Row.{accepted-same, refusedAt-accepted}
+use Rattle.runlaws.specs.Field.{mostBytes, fieldAt}
+use Rattle.runlaws.specs.Run.{startWidth, runOf}
+use Rattle.runlaws.specs.WholeRun.{run-long, run-unbegun}
 use Rattle.fields.specs.declared.StartAnswer.{StartAnswer}
 use Rattle.fields.specs.declared.StartAnswer.the-variants.{Width, NoStart}
-use Rattle.fields.specs.Told.{startTold, startOf}
+use Rattle.fields.specs.Told.{fieldIn, startTold, startOf}
 
 start-some : (o : Option ℕ) (n : ℕ) → accepted n ≡ startOf o → o ≡ some n
 unfolding startOf
@@ -18,9 +26,29 @@ unfolding startOf
 start-none none e = refl
 start-none (some n) e = absurd (refusedAt-accepted e)
 
-module _ {o : Option ℕ} {r : StartAnswer} (told : startTold r ≡ startOf o) where
-  pub started : {n : ℕ} → r ≡ Width n → o ≡ some n
-  started {n} is = start-some o n (ap startTold (sym is) ∙ told)
+module _ (limit : ℕ) (s : List ℕ) where
+  short-start : (n : ℕ) → startWidth limit (fieldIn s 0) ≡ some n → (length s ≤ mostBytes) × (startWidth limit (fieldAt s 0) ≡ some n)
+  unfolding fieldIn startWidth
+  short-start n e = go (ltb mostBytes (length s)) refl e
+    where
+      go : (q : Bool) → ltb mostBytes (length s) ≡ q → startWidth limit (cond q none (fieldAt s 0)) ≡ some n
+          → (length s ≤ mostBytes) × (startWidth limit (fieldAt s 0) ≡ some n)
+      go true h e = absurd (Option·none-ne-some _ e)
+      go false h e = (ltb-false mostBytes (length s) h, e)
 
-  pub unstarted : r ≡ NoStart → o ≡ none
-  unstarted is = start-none o (ap startTold (sym is) ∙ told)
+  no-start : startWidth limit (fieldIn s 0) ≡ none → runOf limit s ≡ refusedAt 14 0
+  unfolding fieldIn
+  no-start e = go (ltb mostBytes (length s)) refl e
+    where
+      go : (q : Bool) → ltb mostBytes (length s) ≡ q → startWidth limit (cond q none (fieldAt s 0)) ≡ none → runOf limit s ≡ refusedAt 14 0
+      go true h e = run-long limit s (ltb-true mostBytes (length s) h)
+      go false h e = run-unbegun limit s (ltb-false mostBytes (length s) h) e
+
+  module _ {r : StartAnswer} (told : startTold r ≡ startOf (startWidth limit (fieldIn s 0))) where
+    -- a width: the run is not too long, and its start field gives it
+    pub started : {n : ℕ} → r ≡ Width n → (length s ≤ mostBytes) × (startWidth limit (fieldAt s 0) ≡ some n)
+    started {n} is = short-start n (start-some (startWidth limit (fieldIn s 0)) n (ap startTold (sym is) ∙ told))
+
+    -- none: the run is refused at its start
+    pub unstarted : r ≡ NoStart → runOf limit s ≡ refusedAt 14 0
+    unstarted is = no-start (start-none (startWidth limit (fieldIn s 0)) (ap startTold (sym is) ∙ told))

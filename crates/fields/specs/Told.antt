@@ -1,12 +1,15 @@
 -- What the declared answers about a field mean, and the parts of a field that are handed out one by one. Assumes nothing.
+use mathlib.Core.Bool.{cond}
 use mathlib.Core.List.{List, []}
 use mathlib.Core.Option.{Option, none, some}
 use Prim.Native.Nat.{ℕ}
+use lib.Dec.{ltb}
+use lib.ListN.{length}
 use Rattle.answers.specs.Answer.{Answer}
 use Rattle.answers.specs.Answer.Answer.{accepted, refusedAt}
-use Rattle.runlaws.specs.Field.{Field}
+use Rattle.runlaws.specs.Field.{Field, mostBytes, fieldAt}
 use Rattle.fields.specs.declared.FieldAnswer.{FieldAnswer}
-use Rattle.fields.specs.declared.FieldAnswer.the-variants.{Whole, Cut}
+use Rattle.fields.specs.declared.FieldAnswer.the-variants.{Whole, Refused}
 use Rattle.fields.specs.declared.StartAnswer.{StartAnswer}
 use Rattle.fields.specs.declared.StartAnswer.the-variants.{Width, NoStart}
 
@@ -15,12 +18,20 @@ pub record Head : Type 0 where
   pub tag : ℕ
   pub next : ℕ
 
--- the head of the field that is asked for at `at`, row 14 there where it is cut
+-- the field of a run that is asked for at `at`, none where it is cut or the run is too long
+unfoldable pub fieldIn : List ℕ → ℕ → Option Field
+fieldIn s at = cond (ltb mostBytes (length s)) none (fieldAt s at)
+
+-- where it is refused then: at 0 where the run is too long
+unfoldable pub placeIn : List ℕ → ℕ → ℕ
+placeIn s at = cond (ltb mostBytes (length s)) 0 at
+
+-- the head of a field, row 14 at this place where there is none
 unfoldable pub headOf : ℕ → Option Field → Answer Head
 headOf at none = refusedAt 14 at
 headOf at (some f) = accepted (record { tag = f .tag; next = f .next })
 
--- its body, nothing where it is cut
+-- its body, nothing where there is none
 unfoldable pub bodyOf : Option Field → List ℕ
 bodyOf none = []
 bodyOf (some f) = f .body
@@ -30,9 +41,9 @@ unfoldable pub startOf : Option ℕ → Answer ℕ
 startOf none = refusedAt 14 0
 startOf (some n) = accepted n
 
-abbrev pub headTold : ℕ → FieldAnswer → Answer Head
-headTold at (Whole tag next) = accepted (record { tag = tag; next = next })
-headTold at Cut = refusedAt 14 at
+abbrev pub headTold : FieldAnswer → Answer Head
+headTold (Whole tag next) = accepted (record { tag = tag; next = next })
+headTold (Refused n at) = refusedAt n at
 
 abbrev pub startTold : StartAnswer → Answer ℕ
 startTold (Width n) = accepted n

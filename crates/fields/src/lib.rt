@@ -3,15 +3,14 @@
 mod number;
 
 ghost use mathlib.Core.Path.{_≡_};
-ghost use Rattle.runlaws.specs.Field.{fieldAt};
 ghost use Rattle.runlaws.specs.Run.{startWidth};
-ghost use Rattle.fields.specs.Told.{headTold, headOf, bodyOf, startTold, startOf};
+ghost use Rattle.fields.specs.Told.{fieldIn, placeIn, headTold, headOf, bodyOf, startTold, startOf};
 
 // A field by its tag and the place of the next field's tag. Its body is handed out by `body`, since
 // an enum holds no reference.
 pub enum FieldAnswer {
     Whole { tag: u8, next: usize },
-    Cut,
+    Refused(u8, usize),
 }
 
 pub enum StartAnswer {
@@ -19,21 +18,24 @@ pub enum StartAnswer {
     NoStart,
 }
 
-// The field whose tag stands at `at`; `Cut` is 14 there.
+// The field whose tag stands at `at`; 14 there where it is cut, 14 at 0 where the run is too long.
 pub fn field(run: &[u8], at: usize) -> FieldAnswer
-    ensures { λ r. ⌜ headTold at r ≡ headOf at (fieldAt (now (run .entry)) at) ⌝ }
+    ensures { λ r. ⌜ headTold r ≡ headOf (placeIn (now (run .entry)) at) (fieldIn (now (run .entry)) at) ⌝ }
 {
+    if 65536 < run.len() {
+        return FieldAnswer::Refused(14, 0);
+    }
     if run.len() <= at {
-        return FieldAnswer::Cut;
+        return FieldAnswer::Refused(14, at);
     }
     if run.len() - at < 3 {
-        return FieldAnswer::Cut;
+        return FieldAnswer::Refused(14, at);
     }
     let tag = run[at];
     let size = number::two(run, at + 1);
     let from = at + 3;
     if run.len() - from < size {
-        return FieldAnswer::Cut;
+        return FieldAnswer::Refused(14, at);
     }
     FieldAnswer::Whole {
         tag,
@@ -41,9 +43,9 @@ pub fn field(run: &[u8], at: usize) -> FieldAnswer
     }
 }
 
-// The body of the field at `at`, as a part of the run; nothing of it where the field is cut.
+// The body of the field at `at`, as a part of the run; nothing of it where the field is refused.
 pub fn body(run: &[u8], at: usize) -> &[u8]
-    ensures { λ r. ⌜ now r ≡ bodyOf (fieldAt (now (run .entry)) at) ⌝ }
+    ensures { λ r. ⌜ now r ≡ bodyOf (fieldIn (now (run .entry)) at) ⌝ }
 {
     let FieldAnswer::Whole { tag: _, next } = field(run, at) else {
         return &run[0..0];
@@ -53,7 +55,7 @@ pub fn body(run: &[u8], at: usize) -> &[u8]
 
 // The width that the first field gives: a start field within the limit; `NoStart` is 14 at 0.
 pub fn start(run: &[u8], limit: usize) -> StartAnswer
-    ensures { λ r. ⌜ startTold r ≡ startOf (startWidth limit (fieldAt (now (run .entry)) 0)) ⌝ }
+    ensures { λ r. ⌜ startTold r ≡ startOf (startWidth limit (fieldIn (now (run .entry)) 0)) ⌝ }
 {
     let FieldAnswer::Whole { tag, next: _ } = field(run, 0) else {
         return StartAnswer::NoStart;

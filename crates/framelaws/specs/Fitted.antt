@@ -7,7 +7,7 @@ use native.Mathlib.Omega.{arith}
 use lib.Ieee.{Float}
 use lib.Pow.{pow-lt}
 use Rattle.bitlaws.specs.Opening.{drop-lt}
-use Rattle.paulilaws.specs.Pauli.{Pauli, product, mostQubits}
+use Rattle.paulilaws.specs.Pauli.{Pauli, product}
 use Rattle.paulilaws.specs.Fitting.{Fitting, phase-small, product-fitting}
 use Rattle.paulilaws.specs.Frame.{raised, dropped}
 use Rattle.amplitudelaws.specs.Step.{Step, widthAfter, lastWidth}
@@ -21,13 +21,12 @@ use Rattle.framelaws.specs.Passing.{promotion-below, projection-measurab
 
 raised-fitting : (e : ℕ) {P : Pauli} → Fitting P → Fitting (raised e P)
 unfolding raised
-raised-fitting e {P} f = record { phase = phase-small (P .k + e); width = f .width; xs = f .xs; zs = f .zs }
+raised-fitting e {P} f = record { phase = phase-small (P .k + e); xs = f .xs; zs = f .zs }
 
-widened-fitting : {P : Pauli} → P .n < mostQubits → Fitting P → Fitting (widened P)
+widened-fitting : {P : Pauli} → Fitting P → Fitting (widened P)
 unfolding widened
-widened-fitting {P} h f = record {
+widened-fitting {P} f = record {
   phase = f .phase;
-  width = h;
   xs = omega (arith, pow-lt {i = P .n} {j = suc (P .n)} (omega arith), f .xs);
   zs = omega (arith, pow-lt {i = P .n} {j = suc (P .n)} (omega arith), f .zs);
 }
@@ -39,7 +38,6 @@ dropped-fitting p {P} h f =
     let below = drop-lt p (P .n - 1) (omega arith) in
     record {
       phase = f .phase;
-      width = omega (arith, f .width);
       xs = below (P .x) (subst (λ (k : ℕ). P .x < 2 ^ k) wide (f .xs));
       zs = below (P .z) (subst (λ (k : ℕ). P .z < 2 ^ k) wide (f .zs));
     }
@@ -67,30 +65,30 @@ pub record Fitted (limit n : ℕ) (Q : Pauli) : Type 0 where
   pub width : Q .n ≡ n
   pub within : n ≤ limit
 
-pub fitting-passed : (limit n : ℕ) (Q : Pauli) (t : Step Float) → limit ≤ mostQubits → n ≤ limit → Placed n t → stepRow limit n t ≡ 0 → Fitting Q → Q .n ≡ n
+pub fitting-passed : (limit n : ℕ) (Q : Pauli) (t : Step Float) → n ≤ limit → Placed n t → stepRow limit n t ≡ 0 → Fitting Q → Q .n ≡ n
     → Fitted limit (widthAfter n t) (passed Q t)
 unfolding stepRow widthAfter passed widened dropped raised
-fitting-passed limit n Q (rotation P sign c s) most within h e f width = record { fitting = f; width = width; within = within }
-fitting-passed limit n Q (promotion c q) most within h e f width =
+fitting-passed limit n Q (rotation P sign c s) within h e f width = record { fitting = f; width = width; within = within }
+fitting-passed limit n Q (promotion c q) within h e f width =
     let below : n < limit = promotion-below limit n c q e in
-    record { fitting = widened-fitting (omega arith) f; width = ap suc width; within = below }
-fitting-passed limit n Q (projection M p v invnorm) most within h e f width =
+    record { fitting = widened-fitting f; width = ap suc width; within = below }
+fitting-passed limit n Q (projection M p v invnorm) within h e f width =
     let measurable = projection-measurable M p v invnorm e in
     record {
       fitting = remaining-fitting M _ Q _ p (omega (arith, measurable .inside)) (h ∙ sym width) (measurable .fitting) f;
       width = ap (λ (k : ℕ). k - 1) (absorbed-width M _ Q _ ∙ width);
       within = omega arith;
     }
-fitting-passed limit n Q (correction P) most within h e f width = record {
+fitting-passed limit n Q (correction P) within h e f width = record {
   fitting = raised-fitting _ f;
   width = width;
   within = within;
 }
 
-pub fitting-end : (limit n : ℕ) (Q : Pauli) (ts : List (Step Float)) → limit ≤ mostQubits → n ≤ limit → Allowed limit n ts → Fitting Q → Q .n ≡ n
+pub fitting-end : (limit n : ℕ) (Q : Pauli) (ts : List (Step Float)) → n ≤ limit → Allowed limit n ts → Fitting Q → Q .n ≡ n
     → Fitted limit (lastWidth n ts) (endPauli Q ts)
 unfolding lastWidth endPauli
-fitting-end limit n Q [] most within a f width = record { fitting = f; width = width; within = within }
-fitting-end limit n Q (t ∷ ts) most within a f width =
-    let next = fitting-passed limit n Q t most within (a .0) (a .1) f width in
-    fitting-end limit (widthAfter n t) (passed Q t) ts most (next .within) (a .2) (next .fitting) (next .width)
+fitting-end limit n Q [] within a f width = record { fitting = f; width = width; within = within }
+fitting-end limit n Q (t ∷ ts) within a f width =
+    let next = fitting-passed limit n Q t within (a .0) (a .1) f width in
+    fitting-end limit (widthAfter n t) (passed Q t) ts (next .within) (a .2) (next .fitting) (next .width)

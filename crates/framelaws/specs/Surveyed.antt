@@ -1,5 +1,5 @@
--- What the survey of a list of steps says: the last width, the number of steps, and two numbers that nothing on the way exceeds, the greatest width and
--- the most amplitudes that a projection makes in the scratch. Assumes nothing.
+-- What the survey of a list of steps says: the last width, the number of steps, and the greatest of two numbers on the way, the width and the amplitudes that a
+-- projection makes in the scratch. Assumes nothing.
 use mathlib.Core.Path.{_≡_, refl, ap, _∙_}
 use mathlib.Core.List.{List, [], _∷_}
 use Prim.Native.Nat.{ℕ, _+_, _≤_, max}
@@ -10,6 +10,11 @@ use Rattle.amplitudelaws.specs.Step.{Step, widthAfter, lastWidth}
 use Rattle.framelaws.specs.Survey.{Survey, mixedAmplitudes, surveyed, surveyFrom, outset, survey}
 
 module _ {R : Type 0} where
+  -- the greatest of the numbers that steps give, each at its width; 0 of none
+  unfoldable pub mostGiven : (ℕ → Step R → ℕ) → ℕ → List (Step R) → ℕ
+  mostGiven given n [] = 0
+  mostGiven given n (t ∷ ts) = max (given n t) (mostGiven given (widthAfter n t) ts)
+
   from-width : (v : Survey) (ts : List (Step R)) → surveyFrom v ts .width ≡ lastWidth (v .width) ts
   unfolding surveyFrom surveyed lastWidth
   from-width v [] = refl
@@ -26,6 +31,17 @@ module _ {R : Type 0} where
     unfolding surveyFrom
     from-ge v [] = le-refl (held v)
     from-ge v (t ∷ ts) = le-trans (rw (next v t) (le-max-left (held v) (given (v .width) t))) (from-ge (surveyed v t) ts)
+
+    from-most : (v : Survey) (ts : List (Step R)) → held (surveyFrom v ts) ≡ max (held v) (mostGiven given (v .width) ts)
+    unfolding surveyFrom mostGiven
+    from-most v [] = omega arith
+    from-most v (t ∷ ts) =
+        from-most (surveyed v t) ts
+        ∙ unfold surveyed in (ap (λ (k : ℕ). max k (mostGiven given (widthAfter (v .width) t) ts)) (next v t)
+        ∙ grouped (held v) (given (v .width) t) (mostGiven given (widthAfter (v .width) t) ts))
+      where
+        grouped : (a b c : ℕ) → max (max a b) c ≡ max a (max b c)
+        grouped a b c = omega arith
 
     -- of two surveys at one width, the one that holds no more goes on to hold no more
     from-le : (v w : Survey) (ts : List (Step R)) → v .width ≡ w .width → held v ≤ held w → held (surveyFrom v ts) ≤ held (surveyFrom w ts)
@@ -44,6 +60,18 @@ module _ {R : Type 0} where
     pub survey-steps : survey n ts .steps ≡ length ts
     unfolding survey
     survey-steps = from-steps (outset n) ts ∙ zero-add (length ts)
+
+    -- the greatest width is the start's or a step's, and none is greater; so too the scratch
+    pub survey-most : survey n ts .greatest ≡ max n (mostGiven widthAfter n ts)
+    unfolding survey surveyed
+    survey-most = from-most (λ v. v .greatest) widthAfter (λ v t. refl) (outset n) ts
+
+    pub survey-most-scratch : survey n ts .scratch ≡ mostGiven mixedAmplitudes n ts
+    unfolding survey surveyed
+    survey-most-scratch = from-most (λ v. v .scratch) mixedAmplitudes (λ v t. refl) (outset n) ts ∙ none (mostGiven mixedAmplitudes n ts)
+      where
+        none : (a : ℕ) → max 0 a ≡ a
+        none a = omega arith
 
     pub survey-greatest : n ≤ survey n ts .greatest
     unfolding survey surveyed

@@ -13,7 +13,7 @@ pub(crate) fn paulis(call: u8, words: [u64; 12]) {
     let q = form::index(words[4]);
     match call {
         b'v' => show::number(a.is_pauli() as u64),
-        b'h' => show::number(a.is_hermitian() as u64),
+        b'h' => write::bit(a.is_hermitian()),
         b'm' => write::made(a.mul(b)),
         b'a' => write::bit(a.anticommutes(b)),
         b'e' => write::made(a.raised(form::phase(words[4]))),

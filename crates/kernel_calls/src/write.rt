@@ -29,7 +29,7 @@ fn mask(word: u64) {
 
 // As in a listing: any NaN is written as the same.
 pub fn float(x: f64) {
-    io::print_hex(STDOUT_FILENO, listing::bits(x), 16);
+    io::print_hex(STDOUT_FILENO, lines::bits(x), 16);
 }
 
 pub fn floats(buffer: &[f64]) {

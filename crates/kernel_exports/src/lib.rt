@@ -2,7 +2,12 @@
 // convention: each is one call of the second layer. Its answer is a struct of numbers: the verdict, and the
 // value, which beside a refusal is a fixed one. Paulis and kernels cross as the structs that they are, laid out as
 // in C; a lent slice is a pointer and a length: that it is so long, and that no two overlap, is the caller's to
-// see to.
+// see to. A sign or a branch comes in as a number, since a byte that is handed over for a bool may be any: over 1 it
+// is refused by 14, behind the call's own rows.
+//
+// The floating-point mode is the process's, and no proof sees it. A program that is linked with -ffast-math, or that
+// sets flush-to-zero itself, has subnormal numbers made zeros here too; another rounding mode changes last bits.
+mod own;
 pub mod seen;
 
 use activepauli::ActivePauli;
@@ -10,6 +15,7 @@ use complex::Complex64;
 use kernels::ActivePauliAction;
 use kernels::PrecomputedActivePauliMeasurementKernel;
 use kernels::PrecomputedActivePauliRotationKernel;
+use measurement::ProbabilityAnswer;
 use paulis::PauliString;
 use seen::SeenAction;
 use seen::SeenActivePauli;
@@ -21,8 +27,7 @@ use verdicts::Verdict;
 ghost use mathlib.Core.Path.{_≡_};
 ghost use mathlib.Core.Bool.{false};
 ghost use Prim.Native.Nat.{_%_};
-ghost use Rattle.answers.specs.Row.{answered, left};
-ghost use Rattle.bitlaws.specs.Digit.{bitOf};
+ghost use Rattle.answers.specs.Row.{first, answered, left};
 ghost use Rattle.paulilaws.specs.Pauli as book;
 ghost use Rattle.amplitudelaws.specs.Arithmetic as formula;
 ghost use Rattle.amplitudelaws.specs.Binary.{binary};
@@ -32,10 +37,11 @@ ghost use Rattle.amplitudelaws.specs.Steps as steps;
 ghost use Rattle.complex.specs.Complex.{complexOf};
 ghost use Rattle.paulis.specs.Strings.{pauliOf};
 ghost use Rattle.paulis.specs.Calls.{bitCall};
-ghost use Rattle.pauligroup.specs.Calls.{productCall, anticommutesCall};
+ghost use Rattle.pauligroup.specs.Calls.{productCall, anticommutesCall, squaresCall};
 ghost use Rattle.activepauli.specs.Active.{activeOf};
 ghost use Rattle.activepauli.specs.Calls.{raisedCall, droppedCall};
 ghost use Rattle.kernels.specs.Kernel.{actionMeant, actionOf, rotationMeant, rotationOf, measurementMeant, measurementOf, defaultPivot, finished};
+ghost use Rattle.verdicts.specs.Flag.{flagRow};
 ghost use Rattle.verdicts.specs.Verdict.{verdictOf, Seen};
 ghost use Rattle.kernel_exports.specs.Nothing.{noFloat, noAction, noRotation, noMeasurement};
 
@@ -54,10 +60,10 @@ pub extern "C" fn naribhush_active_anticommutes(a: ActivePauli, b: ActivePauli) 
 }
 
 #[no_mangle]
-pub extern "C" fn naribhush_active_is_hermitian(pauli: ActivePauli) -> bool
-    ensures { λ r. ⌜ r ≡ book.hermitian (activeOf pauli) ⌝ }
+pub extern "C" fn naribhush_active_is_hermitian(pauli: ActivePauli) -> SeenBit
+    ensures { λ r. ⌜ Seen (r .verdict) (r .bit) false (squaresCall (activeOf pauli)) ⌝ }
 {
-    pauli.is_hermitian()
+    seen::bit(pauli.is_hermitian())
 }
 
 #[no_mangle]
@@ -127,19 +133,27 @@ pub extern "C" fn naribhush_with_pivot(pauli: ActivePauli, pivot: usize) -> Seen
     seen::measurement(PrecomputedActivePauliMeasurementKernel::with_pivot(pauli, pivot))
 }
 
+// The sign is 0 or 1; over 1 it is refused by 14.
 #[no_mangle]
 pub extern "C" fn naribhush_rotate(
     re: &mut [f64],
     im: &mut [f64],
     pauli: ActivePauli,
-    sign: bool,
+    sign: u8,
     c: f64,
     s: f64,
 ) -> Verdict
-    ensures answer { λ r. ⌜ r ≡ verdictOf (answered (rotationRow (activeOf pauli) c s (stateOf (now (re .entry)) (now (im .entry)))) finished) ⌝ }
-    ensures state { λ _. ⌜ stateOf (now (re .exit)) (now (im .exit)) ≡ left (rotationRow (activeOf pauli) c s (stateOf (now (re .entry)) (now (im .entry)))) (steps.rotation (activeOf pauli) (bitOf sign) c s (stateOf (now (re .entry)) (now (im .entry)))) (stateOf (now (re .entry)) (now (im .entry))) ⌝ }
+    ensures { λ r. ⌜ (let S = stateOf (now (re .entry)) (now (im .entry)) in
+        let row = first (rotationRow (activeOf pauli) c s S) (flagRow sign) in
+        (r ≡ verdictOf (answered row finished))
+        × (stateOf (now (re .exit)) (now (im .exit)) ≡ left row (steps.rotation (activeOf pauli) sign c s S) S)) ⌝ }
 {
-    seen::step(rotation::rotate_contiguous_active(re, im, pauli, sign, c, s))
+    let own = own::rotation_row(re, im, pauli, c, s);
+    let row = rows::first(own, verdicts::flag_row(sign));
+    if row != 0 {
+        return verdicts::refused(row);
+    }
+    seen::step(rotation::rotate_contiguous_active(re, im, pauli, sign == 1, c, s))
 }
 
 #[no_mangle]
@@ -156,19 +170,28 @@ pub extern "C" fn naribhush_promote(
     seen::step(promotion::promote_contiguous_active(re, im, nqubits, c, q))
 }
 
+// The branch is 0 or 1; over 1 it is refused by 14.
 #[no_mangle]
 pub extern "C" fn naribhush_probability(
     re: &[f64],
     im: &[f64],
     pauli: ActivePauli,
     pivot: usize,
-    branch: bool,
+    branch: u8,
 ) -> SeenProbability
-    ensures { λ r. ⌜ Seen (r .verdict) (r .probability) noFloat (answered (probabilityRow (activeOf pauli) pivot (stateOf (now (re .entry)) (now (im .entry)))) (steps.probability (activeOf pauli) pivot (bitOf branch) (stateOf (now (re .entry)) (now (im .entry))))) ⌝ }
+    ensures { λ r. ⌜ (let S = stateOf (now (re .entry)) (now (im .entry)) in
+        let row = first (probabilityRow (activeOf pauli) pivot S) (flagRow branch) in
+        Seen (r .verdict) (r .probability) noFloat (answered row (steps.probability (activeOf pauli) pivot branch S))) ⌝ }
 {
-    seen::probability(measurement::probability_contiguous(re, im, pauli, pivot, branch))
+    let own = own::probability_row(re, im, pauli, pivot);
+    let row = rows::first(own, verdicts::flag_row(branch));
+    if row != 0 {
+        return seen::probability(ProbabilityAnswer::Refused(row));
+    }
+    seen::probability(measurement::probability_contiguous(re, im, pauli, pivot, branch == 1))
 }
 
+// The branch is 0 or 1; over 1 it is refused by 14.
 #[no_mangle]
 pub extern "C" fn naribhush_project(
     re: &mut [f64],
@@ -177,13 +200,22 @@ pub extern "C" fn naribhush_project(
     scratch_im: &mut [f64],
     pauli: ActivePauli,
     pivot: usize,
-    branch: bool,
+    branch: u8,
     invnorm: f64,
 ) -> Verdict
-    ensures answer { λ r. ⌜ r ≡ verdictOf (answered (projectionRow (activeOf pauli) pivot invnorm (stateOf (now (re .entry)) (now (im .entry))) (stateOf (now («scratch_re» .entry)) (now («scratch_im» .entry)))) finished) ⌝ }
-    ensures state { λ _. ⌜ stateOf (now (re .exit)) (now (im .exit)) ≡ left (projectionRow (activeOf pauli) pivot invnorm (stateOf (now (re .entry)) (now (im .entry))) (stateOf (now («scratch_re» .entry)) (now («scratch_im» .entry)))) (steps.projection (activeOf pauli) pivot (bitOf branch) invnorm (stateOf (now (re .entry)) (now (im .entry)))) (stateOf (now (re .entry)) (now (im .entry))) ⌝ }
-    ensures scratch { λ _. ⌜ stateOf (now («scratch_re» .exit)) (now («scratch_im» .exit)) ≡ left (projectionRow (activeOf pauli) pivot invnorm (stateOf (now (re .entry)) (now (im .entry))) (stateOf (now («scratch_re» .entry)) (now («scratch_im» .entry)))) (steps.scratchAfter (activeOf pauli) pivot (bitOf branch) invnorm (stateOf (now (re .entry)) (now (im .entry))) (stateOf (now («scratch_re» .entry)) (now («scratch_im» .entry)))) (stateOf (now («scratch_re» .entry)) (now («scratch_im» .entry))) ⌝ }
+    ensures { λ r. ⌜ (let S = stateOf (now (re .entry)) (now (im .entry)) in
+        let B = stateOf (now («scratch_re» .entry)) (now («scratch_im» .entry)) in
+        let M = activeOf pauli in
+        let row = first (projectionRow M pivot invnorm S B) (flagRow branch) in
+        (r ≡ verdictOf (answered row finished))
+        × (stateOf (now (re .exit)) (now (im .exit)) ≡ left row (steps.projection M pivot branch invnorm S) S)
+        × (stateOf (now («scratch_re» .exit)) (now («scratch_im» .exit)) ≡ left row (steps.scratchAfter M pivot branch invnorm S B) B)) ⌝ }
 {
+    let own = measurement::projection_row(re, im, scratch_re, scratch_im, pauli, pivot, invnorm);
+    let row = rows::first(own, verdicts::flag_row(branch));
+    if row != 0 {
+        return verdicts::refused(row);
+    }
     seen::step(measurement::project_contiguous(
         re,
         im,
@@ -191,7 +223,7 @@ pub extern "C" fn naribhush_project(
         scratch_im,
         pauli,
         pivot,
-        branch,
+        branch == 1,
         invnorm,
     ))
 }

@@ -1,1 +1,2 @@
+pub mod DefaultPivot
 pub mod OneWord

@@ -52,17 +52,17 @@ pub record MeasurementKernel : Type 0 where
   pub outputs : ℕ
   pub coefficient : Point
 
--- the highest set bit of a 64-bit word, 0 where none is
-abbrev pub orNone : Option ℕ → ℕ
-orNone none = 0
-orNone (some q) = q
+-- the highest set bit of the n lowest, 0 where none is
+abbrev pub orZero : Option ℕ → ℕ
+orZero none = 0
+orZero (some q) = q
 
-unfoldable pub highestOr : ℕ → ℕ
-highestOr word = orNone (highest 64 word)
+unfoldable pub highestOrZero : ℕ → ℕ → ℕ
+highestOrZero n mask = orZero (highest n mask)
 
 -- the pivot that is taken where none is given: the highest bit of x, or of z where x is 0
 unfoldable pub defaultPivot : Pauli → ℕ
-defaultPivot M = highestOr (pivotMask M)
+defaultPivot M = highestOrZero (M .n) (pivotMask M)
 
 unfoldable pub actionOf : Pauli → Action
 actionOf P = record {
@@ -79,7 +79,7 @@ rotationOf P c s = record {
   action = actionOf P;
   diagonal = eqb (P .x) 0;
   imaginary = not (eqb (P .x) 0) && eqb (P .z) 0;
-  pairBit = highestOr (P .x);
+  pairBit = highestOrZero (P .n) (P .x);
   cosine = c;
   sine = s;
   m = rotationCoefficient binary (P .k) s;

@@ -1,30 +1,54 @@
--- The highest bit of a mask is in it, so that the pairs of the mask can be counted by it. Assumes nothing.
-use mathlib.Core.Path.{_≡_, refl, sym, _∙_}
+-- The highest bit of a mask is in it, so that the pairs of the mask can be counted by it; the pivot that is taken where none is given is such a bit. Assumes nothing.
+use mathlib.Core.Path.{_≡_, refl}
+use mathlib.Core.Bool.{Bool, true, false, cond}
 use mathlib.Core.Logic.{⊎-elim}
 use mathlib.Core.Option.{Option, none, some}
 use Prim.Native.Nat.{ℕ, _^_, _≤_, _<_}
 use native.Mathlib.Omega.{arith}
-use lib.Pow.{pow-mono, pow-pos}
-use Rattle.bitlaws.specs.Digit.{digit-above, digits-same}
-use Rattle.bitlaws.specs.Highest.{highest, highest-top, none-set}
+use lib.Dec.{eqb}
+use Rattle.bitlaws.specs.Digit.{digit-above}
+use Rattle.bitlaws.specs.Highest.{highest, Top, highest-top, none-zero}
 use Rattle.bitlaws.specs.Order.{le-or-lt}
+use Rattle.paulilaws.specs.Pauli.{Pauli}
+use Rattle.paulilaws.specs.Fitting.{Fitting}
 use Rattle.statelaws.specs.Pairs.{Pivoted}
-use Rattle.kernels.specs.Kernel.{highestOr, orNone}
+use Rattle.amplitudelaws.specs.Rows.{pivotMask}
+use Rattle.kernels.specs.Kernel.{orZero, highestOrZero, defaultPivot}
 
-pub highest-pivot : (n x : ℕ) → n ≤ 64 → x < 2 ^ n → (x ≡ 0 → ⊥) → Pivoted n (highestOr x) x
-unfolding highestOr
-highest-pivot n x h small some-bit = go (highest 64 x) refl
+-- a bit that a search of any width finds
+pub found-pivot : (n m x q : ℕ) → x < 2 ^ n → highest m x ≡ some q → Pivoted n q x
+found-pivot n m x q small e =
+    let top = highest-top m x q e in
+    record {
+      inside = ⊎-elim (λ (past : n ≤ q). absurd (omega (arith, digit-above n q x small past, top .set))) (λ (b : q < n). b) (le-or-lt n q);
+      mask = small;
+      has = top .set;
+    }
+
+-- a mask that has a bit has a highest
+pub highest-found : (n x : ℕ) → x < 2 ^ n → (x ≡ 0 → ⊥) → Top n x (highestOrZero n x)
+unfolding highestOrZero
+highest-found n x small some-bit = go (highest n x) refl
   where
-    go : (o : Option ℕ) → highest 64 x ≡ o → Pivoted n (orNone o) x
-    go none e =
-        absurd
-        (some-bit
-        (digits-same 64 x 0 (omega (arith, pow-mono {i = n} {j = 64} h)) (pow-pos 64)
-        (λ i b. none-set 64 x e i b ∙ sym (digit-above 0 i 0 (pow-pos 0) (omega arith)))))
-    go (some q) e =
-        let top = highest-top 64 x q e in
-        record {
-          inside = ⊎-elim (λ (past : n ≤ q). absurd (omega (arith, digit-above n q x small past, top .set))) (λ (b : q < n). b) (le-or-lt n q);
-          mask = small;
-          has = top .set;
-        }
+    go : (o : Option ℕ) → highest n x ≡ o → Top n x (orZero o)
+    go none e = absurd (some-bit (none-zero n x small e))
+    go (some q) e = highest-top n x q e
+
+pub highest-pivot : (n x : ℕ) → x < 2 ^ n → (x ≡ 0 → ⊥) → Pivoted n (highestOrZero n x) x
+highest-pivot n x small some-bit = let top = highest-found n x small some-bit in record { inside = top .inside; mask = small; has = top .set }
+
+-- ---- the pivot that is taken where none is given
+
+-- what bounds both masks bounds the pivot's
+pub mask-below : (M : Pauli) (m : ℕ) → M .x < m → M .z < m → pivotMask M < m
+unfolding pivotMask
+mask-below M m xs zs = go (eqb (M .x) 0)
+  where
+    go : (t : Bool) → cond t (M .z) (M .x) < m
+    go true = zs
+    go false = xs
+
+-- it is in the mask, below the width, and no bit of the mask stands above it
+pub default-top : (M : Pauli) → Fitting M → (pivotMask M ≡ 0 → ⊥) → Top (M .n) (pivotMask M) (defaultPivot M)
+unfolding defaultPivot
+default-top M f some-bit = highest-found (M .n) (pivotMask M) (mask-below M (2 ^ M .n) (f .xs) (f .zs)) some-bit

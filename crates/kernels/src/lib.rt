@@ -4,16 +4,17 @@
 // `basis`. A basis index fits a machine word, so an action has at most 62 qubits and a kernel 61. The
 // kernels are of a fixed size: coefficients for each basis are derived from the masks as a call runs.
 use activepauli::ActivePauli;
+use bits::HighestBit;
 use complex::Complex64;
 use paulis::PauliString;
 ghost use mathlib.Core.Path.{_≡_};
 ghost use mathlib.Core.Bool.{false};
-ghost use Prim.Native.Nat.{_<_, _≤_};
+ghost use Prim.Native.Nat.{_<_, _≤_, _^_};
 ghost use Rattle.answers.specs.Row.{answered};
 ghost use Rattle.paulis.specs.Strings.{pauliOf};
 ghost use Rattle.activepauli.specs.Active.{activeOf};
-ghost use Rattle.amplitudelaws.specs.Rows.{actionRow, rotationKernelRow, measurementRow};
-ghost use Rattle.kernels.specs.Kernel.{actionMeant, actionTold, actionOf, rotationMeant, rotationTold, rotationOf, measurementMeant, measurementTold, measurementOf, defaultPivot, highestOr};
+ghost use Rattle.amplitudelaws.specs.Rows.{actionRow, rotationKernelRow, pivotMask, measurementRow};
+ghost use Rattle.kernels.specs.Kernel.{actionMeant, actionTold, actionOf, rotationMeant, rotationTold, rotationOf, measurementMeant, measurementTold, measurementOf, defaultPivot, highestOrZero};
 
 // A Hermitian Pauli reduced to the single-word masks the kernels consume.
 //
@@ -86,9 +87,6 @@ impl ActivePauliAction {
         if !pauli.is_pauli() {
             return ActionAnswer::Refused(3);
         }
-        if 62 < pauli.nqubits {
-            return ActionAnswer::Refused(6);
-        }
         let x = pauli.x;
         let z = pauli.z;
         let xmask = x[0];
@@ -99,8 +97,9 @@ impl ActivePauliAction {
             z: zmask,
             phase: pauli.phase,
         };
-        if !active.is_hermitian() {
-            return ActionAnswer::Refused(7);
+        let row = rows::hermitian_row(active, 62);
+        if row != 0 {
+            return ActionAnswer::Refused(row);
         }
         ActionAnswer::Action(action(active))
     }
@@ -135,7 +134,7 @@ impl PrecomputedActivePauliRotationKernel {
 }
 
 fn rotation_kernel(pauli: ActivePauli, c: f64, s: f64) -> PrecomputedActivePauliRotationKernel
-    requires { ⌜ pauli .phase ≤ 3 ⌝ }
+    requires { ⌜ (pauli .phase ≤ 3) × (pauli .x < 2 ^ pauli .nqubits) ⌝ }
     ensures { λ r. ⌜ rotationMeant r ≡ rotationOf (activeOf pauli) c s ⌝ }
 {
     let action = action(pauli);
@@ -144,7 +143,7 @@ fn rotation_kernel(pauli: ActivePauli, c: f64, s: f64) -> PrecomputedActivePauli
         action,
         is_diagonal,
         uniform_imag_pairs: !is_diagonal & (pauli.z == 0),
-        pair_bit: highest_bit(pauli.x),
+        pair_bit: highest_or_zero(pauli.x),
         cos_kernel_angle: c,
         sin_kernel_angle: s,
         minus_even_coefficient: complex::times(Complex64 { re: 0.0, im: -s }, action.even_phase),
@@ -156,10 +155,7 @@ impl PrecomputedActivePauliMeasurementKernel {
     pub fn from_pauli(pauli: ActivePauli) -> MeasurementKernelAnswer
         ensures { λ r. ⌜ measurementTold r ≡ answered (measurementRow (activeOf pauli) (defaultPivot (activeOf pauli)) false) (measurementOf (activeOf pauli) (defaultPivot (activeOf pauli))) ⌝ }
     {
-        PrecomputedActivePauliMeasurementKernel::with_pivot(
-            pauli,
-            highest_bit(rows::pivot_mask(pauli)),
-        )
+        PrecomputedActivePauliMeasurementKernel::with_pivot(pauli, default_pivot(pauli))
     }
 
     // Refused by 3, by 6 past 61 qubits, by 7 and by 9 to 12.
@@ -194,12 +190,22 @@ fn measurement_kernel(pauli: ActivePauli, pivot: usize) -> PrecomputedActivePaul
     }
 }
 
-// The highest set bit of a word, 0 where none is.
-pub fn highest_bit(word: u64) -> usize
-    ensures { λ r. ⌜ r ≡ highestOr word ⌝ }
+// The pivot that is taken where none is given. A Pauli with a bit at or above its width is refused whatever this is.
+fn default_pivot(pauli: ActivePauli) -> usize
+    ensures { λ r. ⌜ r ≡ highestOrZero 64 (pivotMask (activeOf pauli)) ⌝ }
 {
-    if word == 0 {
-        return 0;
+    if pauli.x == 0 {
+        return highest_or_zero(pauli.z);
     }
-    (63 - u64::leading_zeros(word)) as usize
+    highest_or_zero(pauli.x)
+}
+
+// The highest set bit of a word, 0 where none is.
+fn highest_or_zero(word: u64) -> usize
+    ensures { λ r. ⌜ r ≡ highestOrZero 64 word ⌝ }
+{
+    let HighestBit::Bit(place) = bits::highest_bit(word) else {
+        return 0;
+    };
+    place
 }

@@ -5,6 +5,7 @@ ghost use mathlib.Core.Path.{_≡_};
 ghost use Rattle.framelaws.specs.Memory.{memoryOf};
 ghost use Rattle.runlaws.specs.Run.{widestRun};
 ghost use Rattle.runlaws.specs.Calls.{running};
+ghost use Rattle.answers.specs.Answer.{isAccepted};
 ghost use Rattle.runlaws.specs.Ledger as history;
 ghost use Rattle.runner.specs.Told.{runTold};
 ghost use Rattle.ledger.specs.Told.{ledgerOf};
@@ -73,7 +74,7 @@ fn raised(count: u64, more: bool) -> u64
 
 // Whether the answer is that of a finished run.
 fn is_finished(answer: RunAnswer) -> bool
-    ensures { λ r. ⌜ r ≡ history.isAccepted (runTold answer) ⌝ }
+    ensures { λ r. ⌜ r ≡ isAccepted (runTold answer) ⌝ }
 {
     match answer {
         RunAnswer::Finished { width: _, steps: _ } => true,

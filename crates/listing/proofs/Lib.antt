@@ -1,2 +1,2 @@
-pub mod Digits
-pub mod Lines
+pub mod State
+pub mod Ran

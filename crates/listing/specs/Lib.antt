@@ -1,2 +1,8 @@
 pub mod Listing
-pub mod Calls
+pub mod Start
+pub mod Laws
+pub mod Room
+pub mod Numbers
+pub mod Most
+pub mod Counted
+pub mod Examples

@@ -1,36 +1,46 @@
--- What `bench` prints, as bytes in ASCII: the last width and each basis with its amplitude, or a refusal, each on a line.
--- Assumes nothing.
-use mathlib.Core.Bool.{cond}
-use mathlib.Core.List.{List, [], _∷_, _++_}
-use Prim.Native.Nat.{ℕ, zero, suc, _/_, _%_}
-use lib.Dec.{ltb}
-use lib.Ieee.{Float, binary64, isNan, toBits}
-use Rattle.io.specs.Digits.{glyph, digits}
+-- The whole listing of a run, as bytes in ASCII. Assumes nothing.
+use mathlib.Core.List.{List, [], _++_}
+use Prim.Native.Nat.{ℕ, zero, suc, _-_, _^_}
+use lib.Ieee.{Float}
+use lib.ListN.{replicate, set}
+use Rattle.answers.specs.Answer.{Answer}
+use Rattle.answers.specs.Answer.Answer.{accepted, refused, refusedAt}
+use Rattle.amplitudelaws.specs.Binary.{binary}
+use Rattle.amplitudelaws.specs.State.{State, point}
+use Rattle.framelaws.specs.Memory.{Memory, memoryOf}
+use Rattle.runlaws.specs.Run.{widestRun}
+use Rattle.runlaws.specs.Calls.{Ending, running}
+use Rattle.lines.specs.Lines.{widthLine, amplitudeLine, refusalLine}
 
--- the decimal digits of n, which is at most `most`: those of n / 10, where it is not 0, and then the last
-unfoldable pub decimalUpTo : ℕ → ℕ → List ℕ
-decimalUpTo zero n = glyph 0 ∷ []
-decimalUpTo (suc most) n = cond (ltb n 10) (glyph n ∷ []) (decimalUpTo most (n / 10) ++ glyph (n % 10) ∷ [])
+-- ---- the start: amplitude (1, 0) at basis 0, every other part +0
 
-unfoldable pub decimal : ℕ → List ℕ
-decimal n = decimalUpTo n n
+-- room for the widest state, and in the scratch for what a projection leaves of it
+abbrev pub states : List Float
+states = replicate (2 ^ widestRun) (binary .nought)
 
--- the bits of a float, every NaN having the same
-unfoldable pub bitsOf : Float → ℕ
-bitsOf x = cond (isNan x) 0x7ff8000000000000 (toBits binary64 x)
+abbrev mixtures : List Float
+mixtures = replicate (2 ^ (widestRun - 1)) (binary .nought)
 
--- a space and 16 hexadecimal digits
-unfoldable pub part : Float → List ℕ
-part x = 32 ∷ digits 16 16 (bitsOf x)
+unfoldable pub fresh : Memory
+fresh = memoryOf (set states 0 (binary .one)) states mixtures mixtures
 
--- `qubits ` and the width
-unfoldable pub widthLine : ℕ → List ℕ
-widthLine width = 113 ∷ 117 ∷ 98 ∷ 105 ∷ 116 ∷ 115 ∷ 32 ∷ (decimal width ++ 10 ∷ [])
+-- ---- the text
 
--- the basis, and the two parts of its amplitude
-unfoldable pub amplitudeLine : ℕ → Float → Float → List ℕ
-amplitudeLine basis re im = decimal basis ++ (part re ++ (part im ++ 10 ∷ []))
+-- a line for each basis below b
+unfoldable pub amplitudeLines : State → ℕ → List ℕ
+amplitudeLines S zero = []
+amplitudeLines S (suc b) = amplitudeLines S b ++ amplitudeLine b (point S b .re) (point S b .im)
 
--- `refused ` and the number
-unfoldable pub refusalLine : ℕ → List ℕ
-refusalLine number = 114 ∷ 101 ∷ 102 ∷ 117 ∷ 115 ∷ 101 ∷ 100 ∷ 32 ∷ (decimal number ++ 10 ∷ [])
+-- a state of n qubits: the width, and every amplitude
+unfoldable pub stateText : ℕ → State → List ℕ
+stateText n S = widthLine n ++ amplitudeLines S (2 ^ n)
+
+-- what running answered, and the state that it left
+unfoldable pub textOf : Answer Ending → State → List ℕ
+textOf (accepted E) S = stateText (E .width) S
+textOf (refused n) S = refusalLine n
+textOf (refusedAt n at) S = refusalLine n
+
+-- of a run's bytes, run from the start
+unfoldable pub listed : List ℕ → List ℕ
+listed s = textOf (running widestRun s fresh .answer) (running widestRun s fresh .lent .state)

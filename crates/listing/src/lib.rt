@@ -1,88 +1,90 @@
-// The lines that `bench` prints, each written to the start of a lent buffer: the answer is its length,
-// or the refusal 16 where the buffer is too short, which is then left as it was.
+// The whole listing of a run: `qubits` and the last width, then each basis with its amplitude, or `refused`
+// and the number. The lines are those of the crate `lines`.
 use paulitext::TextAnswer;
+use runner::RunAnswer;
 ghost use mathlib.Core.Path.{_≡_};
-ghost use mathlib.Core.List.{_++_};
-ghost use Prim.Native.Nat.{_+_, _≤_};
+ghost use Prim.Native.Nat.{_+_, _^_, _≤_};
 ghost use lib.ListN.{length};
 ghost use lib.Seq.{sets};
-ghost use Rattle.listing.specs.Calls.{Lined, Within};
-ghost use Rattle.listing.specs.Listing.{decimal, bitsOf, widthLine, amplitudeLine, refusalLine};
-ghost use Rattle.listing.specs.Listing.{part as Listing·part};
+ghost use Rattle.amplitudelaws.specs.State.{State, stateOf};
+ghost use Rattle.runlaws.specs.Run.{widestRun};
+ghost use Rattle.lines.specs.Calls.{Lined};
+ghost use Rattle.lines.specs.Lines.{amplitudeLine};
+ghost use Rattle.listing.specs.Listing.{amplitudeLines, stateText, listed};
 
-// The bits of a float, every NaN having the same.
-pub fn bits(x: f64) -> u64
-    ensures { λ r. ⌜ r ≡ bitsOf x ⌝ }
+// Runs a run from amplitude (1, 0) at basis 0 and writes its listing to the start of `out`: the answer is the
+// text's length, or 16 where `out` is too short for it, which is then left as it was.
+pub fn list_run(run: &[u8], out: &mut [u8]) -> TextAnswer
+    ensures { λ r. ⌜ Lined (listed (now (run .entry))) (now (out .entry)) r (now (out .exit)) ⌝ }
 {
-    if x != x {
-        return 0x7ff8000000000000;
+    // Room for 12 qubits, and in the scratch for the 11 that a projection leaves of them.
+    let mut re = [0.0; 4096];
+    let mut im = [0.0; 4096];
+    let mut scratch_re = [0.0; 2048];
+    let mut scratch_im = [0.0; 2048];
+    re[0] = 1.0;
+    let answer = runner::run_contiguous(run, &mut re, &mut im, &mut scratch_re, &mut scratch_im);
+    match answer {
+        RunAnswer::Finished { width, steps: _ } => list_state(&re, &im, width, out),
+        RunAnswer::Refused(row) => lines::refused(row, out),
+        RunAnswer::RefusedAt(row, _) => lines::refused(row, out),
     }
-    f64::to_bits(x)
 }
 
-// `qubits` and the width.
-pub fn qubits(width: usize, out: &mut [u8]) -> TextAnswer
-    ensures { λ r. ⌜ Lined (widthLine width) (now (out .entry)) r (now (out .exit)) ⌝ }
-    ensures { λ r. ⌜ Within r (now (out .exit)) ⌝ }
+// A state. The text's length is known before anything is written.
+fn list_state(re: &[f64], im: &[f64], width: usize, out: &mut [u8]) -> TextAnswer
+    requires { ⌜ (width ≤ widestRun) × (2 ^ width ≤ length (now re)) × (2 ^ width ≤ length (now im)) ⌝ }
+    ensures { λ r. ⌜ Lined (stateText width (stateOf (now (re .entry)) (now (im .entry)))) (now (out .entry)) r (now (out .exit)) ⌝ }
 {
-    line(b"qubits ", width as u64, b"\n", out)
-}
-
-// The basis, and the bits of the two parts of its amplitude.
-pub fn amplitude(basis: usize, re: f64, im: f64, out: &mut [u8]) -> TextAnswer
-    ensures { λ r. ⌜ Lined (amplitudeLine basis re im) (now (out .entry)) r (now (out .exit)) ⌝ }
-    ensures { λ r. ⌜ Within r (now (out .exit)) ⌝ }
-{
-    let mut tail = [0u8; 35];
-    let second = part(re, 0, &mut tail);
-    let end = part(im, second, &mut tail);
-    put(b"\n", end, &mut tail);
-    line(b"", basis as u64, &tail, out)
-}
-
-// `refused` and the number.
-pub fn refused(number: u8, out: &mut [u8]) -> TextAnswer
-    ensures { λ r. ⌜ Lined (refusalLine number) (now (out .entry)) r (now (out .exit)) ⌝ }
-    ensures { λ r. ⌜ Within r (now (out .exit)) ⌝ }
-{
-    line(b"refused ", number as u64, b"\n", out)
-}
-
-// A number in decimal between two texts.
-fn line(label: &[u8], n: u64, tail: &[u8], out: &mut [u8]) -> TextAnswer
-    requires { ⌜ (length (now label) ≤ 8) × (length (now tail) ≤ 35) ⌝ }
-    ensures { λ r. ⌜ Lined (now (label .entry) ++ (decimal n ++ now (tail .entry))) (now (out .entry)) r (now (out .exit)) ⌝ }
-    ensures { λ r. ⌜ Within r (now (out .exit)) ⌝ }
-{
-    let mut digits = [0u8; 20];
-    let count = io::decimal(n, &mut digits);
-    let len = label.len() + count + tail.len();
+    let dim = 1usize << width;
+    let first = 8 + lines::decimal_length(width as u64);
+    let len = first + lines_length(dim);
     if out.len() < len {
         return TextAnswer::Refused(16);
     }
-    let number = put(label, 0, out);
-    let rest = put(&digits[..count], number, out);
-    put(tail, rest, out);
+    lines::qubits(width, out);
+    put_lines(re, im, dim, first, out);
     TextAnswer::Length(len)
 }
 
-// Puts a space and the 16 hexadecimal digits of a float's bits at `at`, and answers where they end.
-fn part(x: f64, at: usize, out: &mut [u8]) -> usize
-    requires { ⌜ at + 17 ≤ length (now out) ⌝ }
-    ensures { λ r. ⌜ r ≡ at + 17 ⌝ }
-    ensures { λ _. ⌜ now (out .exit) ≡ sets (now (out .entry)) at (Listing·part x) ⌝ }
+// The length of the lines of the bases below `dim`, whatever their amplitudes.
+fn lines_length(dim: usize) -> usize
+    requires { ⌜ dim ≤ 2 ^ widestRun ⌝ }
+    ensures { λ r. ⌜ ((S : State) → r ≡ length (amplitudeLines S dim)) ⌝ }
 {
-    let mut digits = [0u8; 16];
-    let count = io::hex(bits(x), 16, &mut digits);
-    let first = put(b" ", at, out);
-    put(&digits[..count], first, out)
+    let mut len = 0;
+    let mut b = 0;
+    while b < dim {
+        len += lines::decimal_length(b as u64) + 35;
+        b += 1;
+    }
+    len
 }
 
-// Puts a text at `at`, and answers where it ends.
-fn put(text: &[u8], at: usize, out: &mut [u8]) -> usize
-    requires { ⌜ at + length (now text) ≤ length (now out) ⌝ }
-    ensures { λ r. ⌜ r ≡ at + length (now (text .entry)) ⌝ }
-    ensures { λ _. ⌜ now (out .exit) ≡ sets (now (out .entry)) at (now (text .entry)) ⌝ }
+// Puts the lines of the bases below `dim` at `at`.
+fn put_lines(re: &[f64], im: &[f64], dim: usize, at: usize, out: &mut [u8])
+    requires { ⌜ (dim ≤ length (now re)) × (dim ≤ length (now im)) ⌝ }
+    requires { ⌜ at + length (amplitudeLines (stateOf (now re) (now im)) dim) ≤ length (now out) ⌝ }
+    ensures { λ _. ⌜ now (out .exit) ≡ sets (now (out .entry)) at (amplitudeLines (stateOf (now (re .entry)) (now (im .entry))) dim) ⌝ }
 {
-    at + bytes::copy(text, &mut out[at..])
+    let mut end = at;
+    let mut b = 0;
+    while b < dim {
+        end = put_line(b, re[b], im[b], end, out);
+        b += 1;
+    }
+}
+
+// Puts one of them at `at`, and answers where it ends.
+fn put_line(basis: usize, re: f64, im: f64, at: usize, out: &mut [u8]) -> usize
+    requires { ⌜ at + length (amplitudeLine basis re im) ≤ length (now out) ⌝ }
+    ensures { λ r. ⌜ r ≡ at + length (amplitudeLine basis re im) ⌝ }
+    ensures { λ _. ⌜ now (out .exit) ≡ sets (now (out .entry)) at (amplitudeLine basis re im) ⌝ }
+{
+    let answer = lines::amplitude(basis, re, im, &mut out[at..]);
+    let TextAnswer::Length(n) = answer else {
+        // Never: the line fits.
+        return at;
+    };
+    at + n
 }

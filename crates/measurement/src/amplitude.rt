@@ -1,8 +1,10 @@
-// One amplitude of the two buffers.
+// One amplitude of the two buffers, and the basis of an output.
+use bits::Opened;
 use complex::Complex64;
 ghost use mathlib.Core.Path.{_≡_};
-ghost use Prim.Native.Nat.{_<_};
+ghost use Prim.Native.Nat.{_%_, _<_, _^_};
 ghost use lib.ListN.{length};
+ghost use Rattle.bitlaws.specs.Opening.{openBit};
 ghost use Rattle.amplitudelaws.specs.State.{stateOf, point, setPoint};
 ghost use Rattle.complex.specs.Complex.{complexOf};
 
@@ -22,4 +24,16 @@ pub(crate) fn write(re: &mut [f64], im: &mut [f64], b: usize, a: Complex64)
 {
     re[b] = a.re;
     im[b] = a.im;
+}
+
+// The basis that is output j with a 0 at the pivot.
+pub(crate) fn opened_at(j: usize, pivot: usize) -> usize
+    requires { ⌜ pivot < 64 ⌝ }
+    ensures { λ r. ⌜ r ≡ openBit pivot j % 2 ^ 64 ⌝ }
+{
+    let Opened::Index(index) = bits::insert_zero_bit(j, pivot) else {
+        // Never: row 5 is for a bit over 63.
+        return j;
+    };
+    index
 }

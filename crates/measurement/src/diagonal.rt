@@ -1,5 +1,6 @@
 // No X part: each output reads the one basis that has the branch's parity. Safe in place: every basis
 // read is at least its output index.
+use crate::amplitude;
 use kernels::PrecomputedActivePauliMeasurementKernel;
 ghost use mathlib.Core.Path.{_≡_};
 ghost use mathlib.Core.Bool.{true};
@@ -37,7 +38,7 @@ pub(crate) fn source(packed: usize, pivot: usize, zmask: u64, odd: bool) -> usiz
     requires { ⌜ (pivot ≤ 60) × (packed < 2 ^ 60) ⌝ }
     ensures { λ r. ⌜ r ≡ basis.source pivot zmask (bitOf odd) packed ⌝ }
 {
-    let without_pivot = bits::open_bit(packed, pivot);
+    let without_pivot = amplitude::opened_at(packed, pivot);
     if bits::differs_from_parity(odd, without_pivot as u64, zmask) {
         return without_pivot + (1usize << pivot);
     }

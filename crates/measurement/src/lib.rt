@@ -81,7 +81,7 @@ pub fn project_contiguous(
 }
 
 // All rows of a projection. 8, of invnorm, stands between those of a kernel.
-fn projection_row(
+pub fn projection_row(
     re: &[f64],
     im: &[f64],
     scratch_re: &[f64],

@@ -23,7 +23,7 @@ pub(crate) fn mixture(
     requires { ⌜ Measurable (measurementMeant kernel) × (kernel .«is_diagonal» ≡ false) × (j < 2 ^ (kernel .action .nqubits - 1)) × Holding (kernel .action .nqubits) (stateOf (now re) (now im)) ⌝ }
     ensures { λ r. ⌜ complexOf r ≡ kernelRemaining (measurementMeant kernel) (bitOf branch) (point (stateOf (now (re .entry)) (now (im .entry)))) j ⌝ }
 {
-    let source0 = bits::open_bit(j, kernel.pivot);
+    let source0 = amplitude::opened_at(j, kernel.pivot);
     let source1 = source0 ^ kernel.action.xmask as usize;
     let odd = bits::differs_from_parity(branch, source0 as u64, kernel.action.zmask);
     let w = complex::scale(

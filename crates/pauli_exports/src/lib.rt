@@ -1,6 +1,9 @@
 // The calls on bits and Pauli strings for callers in other languages, in C's calling convention: each is
 // one call of the first layer. Its answer is a struct of numbers: the verdict, and the value, which beside a
-// refusal is a fixed one. A Pauli string crosses as the struct that it is, laid out as in C.
+// refusal is a fixed one. A Pauli string crosses as the struct that it is, laid out as in C; a lent slice
+// is a pointer and a length, a mask a pointer to four words: that they are so long is the caller's to see to. A bit
+// comes in as a number, since a byte that is handed over for a bool may be any: over 1 it is refused by 14, behind
+// the call's own rows.
 pub mod seen;
 
 use paulis::Pauli;
@@ -10,9 +13,11 @@ use seen::SeenPauli;
 use seen::SeenSupport;
 use verdicts::SeenBit;
 use verdicts::SeenNumber;
+use verdicts::Verdict;
 ghost use mathlib.Core.Path.{_≡_};
 ghost use mathlib.Core.Bool.{false};
 ghost use lib.Dec.{eqb};
+ghost use Rattle.answers.specs.Row.{answered};
 ghost use Rattle.bitlaws.specs.Digit.{bitOf, digit};
 ghost use Rattle.bitlaws.specs.Parity.{parity};
 ghost use Rattle.paulilaws.specs.Letter.{letterOf};
@@ -25,6 +30,7 @@ ghost use Rattle.paulis.specs.Calls.{identityCall, bitCall, getCall, setCall, s
 ghost use Rattle.pauligroup.specs.Calls.{productCall, anticommutesCall, coefficientCall, squaresCall, signCall};
 ghost use Rattle.paulitext.specs.Text.{shown};
 ghost use Rattle.paulitext.specs.Calls.{readCall, showCall, bufferAfter};
+ghost use Rattle.verdicts.specs.Flag.{flagRow, behind};
 ghost use Rattle.verdicts.specs.Verdict.{Seen};
 ghost use Rattle.pauli_exports.specs.Qubit.{SeenQubit};
 
@@ -42,6 +48,7 @@ pub extern "C" fn naribhush_insert_zero_bit(packed: usize, bit: usize) -> SeenNu
     seen::opened(bits::insert_zero_bit(packed, bit))
 }
 
+// False past bit 255.
 #[no_mangle]
 pub extern "C" fn naribhush_packed_bit(words: &[u64; 4], bit_index: usize) -> bool
     ensures { λ r. ⌜ r ≡ eqb (digit «bit_index» (mask (now (words .entry)))) 1 ⌝ }
@@ -49,12 +56,22 @@ pub extern "C" fn naribhush_packed_bit(words: &[u64; 4], bit_index: usize) -> bo
     masks::packed_bit(*words, bit_index)
 }
 
-// In place.
+// In place; past bit 255 nothing is written. The value is 0 or 1; over 1 it is refused by 14.
 #[no_mangle]
-pub extern "C" fn naribhush_set_packed_bit(words: &mut [u64; 4], bit_index: usize, value: bool)
-    ensures { λ _. ⌜ mask (now (words .exit)) ≡ written «bit_index» value (mask (now (words .entry))) ⌝ }
+pub extern "C" fn naribhush_set_packed_bit(
+    words: &mut [u64; 4],
+    bit_index: usize,
+    value: u8,
+) -> Verdict
+    ensures { λ r. ⌜ (let m = mask (now (words .entry)) in
+        Seen r (mask (now (words .exit))) m (answered (flagRow value) (written «bit_index» (eqb value 1) m))) ⌝ }
 {
-    *words = masks::set_packed_bit(*words, bit_index, value);
+    let row = verdicts::flag_row(value);
+    if row != 0 {
+        return verdicts::refused(row);
+    }
+    *words = masks::set_packed_bit(*words, bit_index, value == 1);
+    verdicts::accepted()
 }
 
 #[no_mangle]
@@ -86,22 +103,25 @@ pub extern "C" fn naribhush_get(pauli: PauliString, q: usize) -> SeenLetter
 }
 
 // The letter that has these parts.
-fn letter(x: bool, z: bool) -> Pauli
-    ensures { λ r. ⌜ letterMeant r ≡ letterOf (bitOf x) (bitOf z) ⌝ }
+fn letter(x: u8, z: u8) -> Pauli
+    ensures { λ r. ⌜ letterMeant r ≡ letterOf x z ⌝ }
 {
-    if x {
-        if z { Pauli::Y } else { Pauli::X }
+    if x == 0 {
+        if z == 0 { Pauli::I } else { Pauli::Z }
     } else {
-        if z { Pauli::Z } else { Pauli::I }
+        if z == 0 { Pauli::X } else { Pauli::Y }
     }
 }
 
-// The letter by its X and its Z part.
+// The letter by its X and its Z part, each 0 or 1; one over 1 is refused by 14.
 #[no_mangle]
-pub extern "C" fn naribhush_set(pauli: PauliString, q: usize, x: bool, z: bool) -> SeenPauli
-    ensures { λ r. ⌜ Seen (r .verdict) (pauliOf (r .pauli)) (book.identity 0) (setCall (pauliOf pauli) q (letterOf (bitOf x) (bitOf z))) ⌝ }
+pub extern "C" fn naribhush_set(pauli: PauliString, q: usize, x: u8, z: u8) -> SeenPauli
+    ensures { λ r. ⌜ (let set = setCall (pauliOf pauli) q (letterOf x z) in
+        Seen (r .verdict) (pauliOf (r .pauli)) (book.identity 0) (behind (behind set (flagRow x)) (flagRow z))) ⌝ }
 {
-    seen::pauli(pauli.set(q, letter(x, z)))
+    let set = seen::pauli(pauli.set(q, letter(x, z)));
+    let by_x = seen::behind(set, verdicts::flag_row(x));
+    seen::behind(by_x, verdicts::flag_row(z))
 }
 
 #[no_mangle]

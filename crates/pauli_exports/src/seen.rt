@@ -25,6 +25,7 @@ ghost use Rattle.bits.specs.Opening.{told};
 ghost use Rattle.paulis.specs.Strings.{pauliOf, letterMeant, bitTold, letterTold, supportTold, outcomeTold, Made};
 ghost use Rattle.pauligroup.specs.Calls.{phaseTold};
 ghost use Rattle.paulitext.specs.Calls.{readTold, textTold, Read};
+ghost use Rattle.verdicts.specs.Flag as table;
 ghost use Rattle.verdicts.specs.Verdict.{verdictOf, Seen};
 ghost use Rattle.pauli_exports.specs.Qubit.{SeenQubit};
 
@@ -162,6 +163,21 @@ pub(crate) fn pauli(answer: PauliAnswer) -> SeenPauli
     let verdict = outcome(made);
     let pauli = answer.pauli;
     SeenPauli { verdict, pauli }
+}
+
+// An answer with a row behind its own: where those let it pass, this one refuses it, unless it is 0.
+pub(crate) fn behind(seen: SeenPauli, row: u8) -> SeenPauli
+    ensures { λ r. ⌜ ((a : Answer book.Pauli) → Seen (seen .verdict) (pauliOf (seen .pauli)) (book.identity 0) a
+        → Seen (r .verdict) (pauliOf (r .pauli)) (book.identity 0) (table.behind a row)) ⌝ }
+{
+    let verdict = seen.verdict;
+    if row == 0 {
+        return seen;
+    }
+    if verdict.kind != 0 {
+        return seen;
+    }
+    pauli(PauliAnswer::refused(row))
 }
 
 fn reading(reading: Reading) -> Verdict

@@ -3,13 +3,13 @@ use mathlib.Core.Path.{_≡_, refl, sym, ap, _∙_}
 use mathlib.Core.Bool.{Bool, true, false, cond}
 use mathlib.Core.Logic.{_↔_}
 use Prim.Native.Nat.{ℕ, zero, suc, _+_, _*_, _/_, _%_, _<_}
-use native.Mathlib.Nat.{zero-lt-suc}
+use native.Mathlib.Nat.{mod-lt, zero-lt-suc}
 use native.Mathlib.Omega.{arith}
 use lib.Arith.{mod-mul}
 use lib.Bits.{xor-zero-l, xor-zero-r, and-comm}
 use lib.Count.{ones}
 use lib.Dec.{eqb}
-use borrow.Author.Tests.{eqb-true, eq-eqb}
+use borrow.Author.Tests.{eqb-true, eqb-false, eq-eqb}
 use Rattle.bitlaws.specs.Xor.{xor-assoc, xor-self}
 use Rattle.bitlaws.specs.Parity.{parity, overlap, overlap-xor-l, overlap-xor-r, overlap-zero-l, overlap-zero-r}
 use Rattle.paulilaws.specs.Pauli.{Pauli, identity, product, ys, coefficient, hermitian, sign, same}
@@ -93,6 +93,33 @@ hermitian-parity P e = even (P .k) (ys P) (eqb-true ((P .k + 3 * ys P) % 4 % 2) 
   where
     even : (k y : ℕ) → (k + 3 * y) % 4 % 2 ≡ 0 → k % 2 ≡ y % 2
     even k y e = omega arith
+
+-- and only a Hermitian one's has
+pub parity-hermitian : (P : Pauli) → P .k % 2 ≡ overlap (P .x) (P .z) → hermitian P ≡ true
+unfolding hermitian coefficient ys overlap parity
+parity-hermitian P e = eq-eqb ((P .k + 3 * ys P) % 4 % 2) 0 (even (P .k) (ys P) e)
+  where
+    even : (k y : ℕ) → k % 2 ≡ y % 2 → (k + 3 * y) % 4 % 2 ≡ 0
+    even k y e = omega arith
+
+-- what stands in front of a Hermitian Pauli's letters is i^0 or i^2, by its measurement sign
+pub sign-coefficient : (P : Pauli) → hermitian P ≡ true → coefficient P ≡ 2 * sign P
+unfolding hermitian sign
+sign-coefficient P e = go (eqb (coefficient P) 2) refl
+  where
+    small : coefficient P < 4
+    small = unfold coefficient in (mod-lt (P .k + 3 * ys P) (zero-lt-suc 3))
+
+    go : (t : Bool) → eqb (coefficient P) 2 ≡ t → coefficient P ≡ 2 * cond t 1 0
+    go true q = eqb-true (coefficient P) 2 q
+    go false q = none (coefficient P) small (eqb-true (coefficient P % 2) 0 e) (eqb-false (coefficient P) 2 q)
+      where
+        none : (c : ℕ) → c < 4 → c % 2 ≡ 0 → (c ≡ 2 → ⊥) → c ≡ 0
+        none zero l e ne = refl
+        none (suc zero) l e ne = absurd (omega arith)
+        none (suc (suc zero)) l e ne = absurd (ne refl)
+        none (suc (suc (suc zero))) l e ne = absurd (omega arith)
+        none (suc (suc (suc (suc c)))) l e ne = absurd (omega arith)
 
 -- A Hermitian Pauli is its letters, Y being i X Z, after its measurement sign: k is the number of Ys and twice the sign.
 pub sign-phase : (P : Pauli) → P .k < 4 → hermitian P ≡ true → P .k ≡ (ys P + 2 * sign P) % 4

@@ -5,3 +5,4 @@ pub mod Letter
 pub mod Support
 pub mod Fitting
 pub mod Frame
+pub mod Printed

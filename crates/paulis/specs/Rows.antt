@@ -7,7 +7,7 @@ use borrow.Author.Tests.{le-leb, lt-leb, not-false}
 use Rattle.answers.specs.Answer.{Answer, refuse}
 use Rattle.answers.specs.Answer.Answer.{refused}
 use Rattle.paulilaws.specs.Pauli.{Pauli, fits}
-use Rattle.paulilaws.specs.Fitting.{Fitting, fits-fitting}
+use Rattle.paulilaws.specs.Fitting.{Admitted, fits-admitted}
 use Rattle.paulis.specs.Calls.{onPauli, onQubit}
 
 module _ {A : Type 0} (P : Pauli) (rest : Answer A) {t : Bool} (is : t ≡ fits P) where
@@ -21,8 +21,8 @@ module _ {A : Type 0} (P : Pauli) (rest : Answer A) {t : Bool} (is : t ≡ fits 
     a-pauli = rw (← is, h)
 
 -- what a passed test says
-pub passed : (P : Pauli) {t : Bool} → t ≡ fits P → not t ≡ false → Fitting P
-passed P {t} is h = fits-fitting P (sym is ∙ not-false t h)
+pub admitted : (P : Pauli) {t : Bool} → t ≡ fits P → not t ≡ false → Admitted P
+admitted P {t} is h = fits-admitted P (sym is ∙ not-false t h)
 
 module _ {A : Type 0} (P : Pauli) (q : ℕ) (rest : Answer A) {t : Bool} (is : t ≡ fits P) where
   pub no-pauli-qubit : not t ≡ true → onQubit P q rest ≡ refused 3

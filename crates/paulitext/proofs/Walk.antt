@@ -12,9 +12,9 @@ use lib.Seq.{drop-cons, paste, paste-zero, paste-suc, take-length}
 use borrow.Author.Tests.{le-ltb}
 use Rattle.answers.specs.Answer.{refuse, valueOr}
 use Rattle.answers.specs.Answer.Answer.{accepted, refused, refusedAt}
-use Rattle.paulilaws.specs.Pauli.{Pauli, fits, identity}
+use Rattle.paulilaws.specs.Pauli.{Pauli, fits, identity, mostQubits}
 use Rattle.paulilaws.specs.Letter.{Letter, letterAt, withLetter}
-use Rattle.paulilaws.specs.Fitting.{Fitting, fitting-fits, letter-fitting}
+use Rattle.paulilaws.specs.Fitting.{Admitted, admitted-fits, identity-fitting, letter-fitting}
 use Rattle.paulis.specs.Calls.{onPauli, identityCall, setCall, getCall}
 use Rattle.paulis.specs.Rows.{a-qubit}
 use Rattle.paulis.specs.Strings.{pauliOf, Made}
@@ -35,7 +35,7 @@ letter-none {o = some m} e = absurd (let z : _≡_ {A = ℕ} 0 1 = cc in omega a
 pub record Reached (s : List ℕ) (q : ℕ) (P : Pauli) : Type 0 where
   pub inside : q ≤ length s
   pub width : P .n ≡ length s
-  pub fitting : Fitting P
+  pub admitted : Admitted P
   pub rest : reading q (drop q s) P ≡ reading 0 s (identity (length s))
 
 module _ (s : List ℕ) (q : ℕ) (P : Pauli) (r : Reached s q P) where
@@ -55,14 +55,14 @@ module _ (s : List ℕ) (q : ℕ) (P : Pauli) (r : Reached s q P) where
     reached-next l e = record {
       inside = omega arith;
       width = r .width;
-      fitting = letter-fitting q l P (omega (arith, r .width)) (r .fitting);
+      admitted = record { fitting = letter-fitting q l P (omega (arith, r .width)) (r .admitted .fitting); width = r .admitted .width };
       rest = ap (λ (m : ℕ). reading m (drop m s) (withLetter q l P)) (add-one q)
           ∙ sym (sym (r .rest) ∙ ap (λ (t : List ℕ). reading q t P) (drop-cons s q 0 h)
           ∙ ap (λ (o : Option Letter). onLetter o (refusedAt 2 q) (λ m. reading (suc q) (drop (suc q) s) (withLetter q m P))) e);
     }
 
-pub reached-start : (s : List ℕ) → Fitting (identity (length s)) → Reached s 0 (identity (length s))
-reached-start s f = record { inside = omega arith; width = refl; fitting = f; rest = refl }
+pub reached-start : (s : List ℕ) → length s ≤ mostQubits → Reached s 0 (identity (length s))
+reached-start s short = record { inside = omega arith; width = refl; admitted = record { fitting = identity-fitting (length s); width = short }; rest = refl }
 
 -- ---- what asking for a Pauli's value tells
 
@@ -117,9 +117,9 @@ module _ (r : PauliAnswer) where
       let passed : identityCall n ≡ accepted (identity n) = rw (le-ltb 256 n h) in
       m .beside ∙ ap (valueOr (identity 0)) passed
 
-  pub made-set : (P : Pauli) (q : ℕ) (l : Letter) → Fitting P → q < P .n → Made r (setCall P q l) → pauliOf (r .pauli) ≡ withLetter q l P
+  pub made-set : (P : Pauli) (q : ℕ) (l : Letter) → Admitted P → q < P .n → Made r (setCall P q l) → pauliOf (r .pauli) ≡ withLetter q l P
   unfolding setCall valueOr
-  made-set P q l f h m = m .beside ∙ ap (valueOr (identity 0)) (a-qubit P q (accepted (withLetter q l P)) {t = true} (sym (fitting-fits P f)) refl h)
+  made-set P q l a h m = m .beside ∙ ap (valueOr (identity 0)) (a-qubit P q (accepted (withLetter q l P)) {t = true} (sym (admitted-fits P a)) refl h)
 
 pub got-letter : (P : Pauli) (q : ℕ) → fits P ≡ true → q < P .n → getCall P q ≡ accepted (letterAt q P)
 unfolding getCall

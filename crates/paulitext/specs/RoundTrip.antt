@@ -14,7 +14,7 @@ use Rattle.answers.specs.Answer.Answer.{accepted, refusedAt}
 use Rattle.bitlaws.specs.Digit.{digit, digit-lt, digits-same}
 use Rattle.paulilaws.specs.Pauli.{Pauli, identity, coefficient, ys, same}
 use Rattle.paulilaws.specs.Letter.{Letter, xPart, zPart, letterOf, letterAt, withLetter}
-use Rattle.paulilaws.specs.Fitting.{Fitting, identity-fitting, letter-fitting}
+use Rattle.paulilaws.specs.Fitting.{Fitting, Admitted, identity-fitting, letter-fitting}
 use Rattle.paulitext.specs.Text.{letterOfByte, onLetter, reading, prefix, byteOf, lettersFrom, body, shown}
 use Rattle.paulitext.specs.Calls.{readCall}
 use Rattle.paulitext.specs.Laws.{letters-length, letters-at, Text, read-text}
@@ -96,16 +96,16 @@ plain-text : (P : Pauli) → 0 < P .n → coefficient P ≡ 0 → shown P ≡ le
 unfolding shown prefix
 plain-text P h e = ap (λ (c : ℕ). prefix c ++ body (P .n) P) e ∙ spelled-out (P .n) P h
 
-pub round-trip : (P : Pauli) → Fitting P → 0 < P .n → coefficient P ≡ 0 → readCall (shown P) ≡ accepted P
+pub round-trip : (P : Pauli) → Admitted P → 0 < P .n → coefficient P ≡ 0 → readCall (shown P) ≡ accepted P
 unfolding readCall refuse
-round-trip P f h e =
+round-trip P a h e =
     let s : List ℕ = lettersFrom 0 (P .n) P in
     let len : length s ≡ P .n = letters-length 0 (P .n) P in
-    let t : Taken 0 (P .n) P (identity (length s)) = taken 0 (P .n) P (identity (length s)) (omega (arith, len)) (identity-fitting (length s) (omega (arith, len, f .width))) in
-    let call : readCall s ≡ accepted (t .read) = rw (le-ltb 256 (length s) (omega (arith, len, f .width))) (t .is) in
+    let t : Taken 0 (P .n) P (identity (length s)) = taken 0 (P .n) P (identity (length s)) (omega (arith, len)) (identity-fitting (length s)) in
+    let call : readCall s ≡ accepted (t .read) = rw (le-ltb 256 (length s) (omega (arith, len, a .width))) (t .is) in
     let r : Text s (t .read) = read-text s (t .read) call in
     let letters : (i : ℕ) → i < P .n → letterAt i P ≡ letterAt i (t .read)
     = λ i l. some-same (sym (ap letterOfByte (letters-at 0 (P .n) i P l) ∙ byte-letter (letterAt (0 + i) P) ∙ ap (λ (m : ℕ). some (letterAt m P)) (zero-add i))
     ∙ r .letters i (omega (arith, len))) in
     ap readCall (plain-text P h e) ∙ call
-    ∙ ap accepted (sym (letters-same P (t .read) f (t .fitting) (sym (r .width ∙ len)) (e ∙ sym (r .one)) letters))
+    ∙ ap accepted (sym (letters-same P (t .read) (a .fitting) (t .fitting) (sym (r .width ∙ len)) (e ∙ sym (r .one)) letters))

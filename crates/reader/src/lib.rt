@@ -17,10 +17,17 @@ pub(crate) enum FloatAnswer {
     NaN,
 }
 
-// The field at the cursor: a step that no row refuses, the end field, or the refusal.
+// The field at the cursor: a step that no row refuses, the end field, or the refusal. A cursor over the limit is where no
+// run leads: 14 there.
 pub fn read(run: &[u8], cursor: Cursor, limit: usize) -> Read
     ensures { λ r. ⌜ readTold r ≡ readAt limit (now (run .entry)) (cursorOf cursor) ⌝ }
 {
+    if 65536 < run.len() {
+        return Read::Refused(14, 0);
+    }
+    if limit < cursor.width {
+        return Read::Refused(14, cursor.at);
+    }
     let FieldAnswer::Whole { tag, next } = fields::field(run, cursor.at) else {
         return Read::Refused(14, cursor.at);
     };

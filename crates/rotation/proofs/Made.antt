@@ -26,7 +26,7 @@ module _ (P : Pauli) (c s : Float) where
       let passed = rotation-passed P c s e in
       record {
         narrow = passed .1;
-        pivot = λ d. highest-pivot (P .n) (P .x) (omega (arith, passed .1)) (passed .0 .xs) (eqb-false (P .x) 0 d);
+        pivot = λ d. highest-pivot (P .n) (P .x) (passed .0 .xs) (eqb-false (P .x) 0 d);
       }
 
   -- without an X part it does not matter whether there is a Z part

@@ -1,18 +1,32 @@
 // An X part: the amplitudes at b and b xor x rotate together. The pairs are counted by the basis without
 // `pair_bit`, which x has.
+use bits::Opened;
 use complex::Complex64;
 ghost use mathlib.Core.Path.{_≡_};
 ghost use mathlib.Core.Bool.{true, false};
-ghost use Prim.Native.Nat.{_+_, _≤_, _<_, _^_};
+ghost use Prim.Native.Nat.{_+_, _%_, _≤_, _<_, _^_};
 ghost use lib.ListN.{length};
 ghost use Rattle.statelaws.specs.Pairs.{Pivoted};
 ghost use Rattle.bitlaws.specs.Digit.{bitOf};
+ghost use Rattle.bitlaws.specs.Opening.{openBit};
 ghost use Rattle.bitlaws.specs.Parity.{overlap};
 ghost use Rattle.amplitudelaws.specs.Arithmetic.{direction, scale, mixed};
 ghost use Rattle.amplitudelaws.specs.Binary.{binary};
 ghost use Rattle.amplitudelaws.specs.Rotation.{rotatedBy, rotatedWith};
 ghost use Rattle.amplitudelaws.specs.State.{stateOf, point, setPoint, written};
 ghost use Rattle.complex.specs.Complex.{complexOf};
+
+// The member of pair k that does not have the pair bit.
+fn opened_at(k: usize, pair_bit: usize) -> usize
+    requires { ⌜ «pair_bit» < 64 ⌝ }
+    ensures { λ r. ⌜ r ≡ openBit «pair_bit» k % 2 ^ 64 ⌝ }
+{
+    let Opened::Index(index) = bits::insert_zero_bit(k, pair_bit) else {
+        // Never: row 5 is for a bit over 63.
+        return k;
+    };
+    index
+}
 
 // z = 0: the same coefficient t for every pair, of which only the imaginary part is not zero.
 pub(crate) fn rotate_uniform_imag_pairs(
@@ -32,7 +46,7 @@ pub(crate) fn rotate_uniform_imag_pairs(
     let half = 1usize << (nqubits - 1);
     let mut k = 0;
     while k < half {
-        let left = bits::open_bit(k, pair_bit);
+        let left = opened_at(k, pair_bit);
         rotate_imag_pair(re, im, left, left ^ xmask as usize, c, t);
         k += 1;
     }
@@ -76,7 +90,7 @@ pub(crate) fn rotate_pairs(
     let half = 1usize << (nqubits - 1);
     let mut k = 0;
     while k < half {
-        let left = bits::open_bit(k, pair_bit);
+        let left = opened_at(k, pair_bit);
         let right = left ^ xmask as usize;
         let to_left = signed(sign, right as u64, zmask, m);
         let to_right = signed(sign, left as u64, zmask, m);

@@ -1,6 +1,7 @@
 // Which row of the scope's table refuses a call on amplitudes or a kernel: the row's number, 0 where
 // none does. Each function here answers for any arguments, so that a call can ask for all its rows and
 // take the first.
+use activepauli::ActiveBitAnswer;
 use activepauli::ActivePauli;
 ghost use mathlib.Core.Path.{_≡_};
 ghost use Prim.Native.Nat.{_^_};
@@ -78,7 +79,10 @@ pub fn width_row(pauli: ActivePauli, widest: usize) -> u8
 pub fn hermitian_row(pauli: ActivePauli, widest: usize) -> u8
     ensures { λ r. ⌜ r ≡ hermitianRow widest (activeOf pauli) ⌝ }
 {
-    first(width_row(pauli, widest), row(!pauli.is_hermitian(), 7))
+    let ActiveBitAnswer::Bit(hermitian) = pauli.is_hermitian() else {
+        return 3;
+    };
+    first(width_row(pauli, widest), row(!hermitian, 7))
 }
 
 // 8, of two coefficients.
@@ -98,14 +102,14 @@ pub fn rotation_row(pauli: ActivePauli, c: f64, s: f64) -> u8
 }
 
 // The mask that the pivot must be in: x, or z where x is 0.
-pub fn pivot_mask(pauli: ActivePauli) -> u64
+fn pivot_mask(pauli: ActivePauli) -> u64
     ensures { λ r. ⌜ r ≡ pivotMask (activeOf pauli) ⌝ }
 {
     if pauli.x == 0 { pauli.z } else { pauli.x }
 }
 
-// 9 to 12.
-pub fn pivot_row(pauli: ActivePauli, pivot: usize) -> u8
+// 9 to 12. No call of its own: `measurement_row` asks for 3 first.
+fn pivot_row(pauli: ActivePauli, pivot: usize) -> u8
     ensures { λ r. ⌜ r ≡ pivotRow (activeOf pauli) pivot ⌝ }
 {
     let mask = pivot_mask(pauli);

@@ -44,7 +44,7 @@ pub(crate) fn field(run: &[u8], at: usize) {
             show::number(tag as u64);
             write::number(next as u64);
         }
-        FieldAnswer::Cut => word(b"cut"),
+        FieldAnswer::Refused(row, at) => refused_at(row, at),
     }
     hex(fields::body(run, at));
 }

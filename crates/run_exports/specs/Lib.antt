@@ -1,2 +1,3 @@
 pub mod Nothing
 pub mod Reading
+pub mod Flags

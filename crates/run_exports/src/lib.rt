@@ -1,6 +1,9 @@
 // The calls on runs for callers in other languages, in C's calling convention: each is one call of the third
 // layer. Its answer is a struct of numbers: the verdict, and the value, which beside a refusal is a fixed one. A
 // lent slice is a pointer and a length; that it is so long, and that no two overlap, is the caller's to see to.
+//
+// The floating-point mode is the process's, and no proof sees it. A program that is linked with -ffast-math, or that
+// sets flush-to-zero itself, has subnormal numbers made zeros here too; another rounding mode changes last bits.
 pub mod seen;
 
 use activepauli::ActivePauli;
@@ -11,6 +14,7 @@ use seen::SeenRead;
 use seen::SeenServed;
 use seen::SeenSurvey;
 use steps::Cursor;
+use verdicts::SeenNumber;
 ghost use mathlib.Core.Path.{_≡_};
 ghost use Rattle.paulilaws.specs.Pauli.{identity};
 ghost use Rattle.framelaws.specs.Memory.{memoryOf};
@@ -21,6 +25,8 @@ ghost use Rattle.runlaws.specs.Ledger as history;
 ghost use Rattle.activepauli.specs.Active.{activeOf};
 ghost use Rattle.checker.specs.Told.{surveyMeant};
 ghost use Rattle.ledger.specs.Told.{ledgerOf};
+ghost use Rattle.lines.specs.Calls.{lineCall, lineLeft};
+ghost use Rattle.listing.specs.Listing.{listed};
 ghost use Rattle.verdicts.specs.Verdict.{Seen};
 ghost use Rattle.run_exports.specs.Nothing.{noSurvey, noEnding};
 ghost use Rattle.run_exports.specs.Reading.{readSeen, readMeant};
@@ -68,6 +74,15 @@ pub extern "C" fn naribhush_carry(run: &[u8], pauli: ActivePauli, out: &mut [u8]
     ensures output { λ _. ⌜ now (out .exit) ≡ carrying widestRun (now (run .entry)) (activeOf pauli) (now (out .entry)) .lent ⌝ }
 {
     seen::carried(carrier::carry_run(run, pauli, out))
+}
+
+// The whole text that the program `bench` prints of a run.
+#[no_mangle]
+pub extern "C" fn naribhush_listing(run: &[u8], out: &mut [u8]) -> SeenNumber
+    ensures length { λ r. ⌜ Seen (r .verdict) (r .number) 0 (lineCall (listed (now (run .entry))) (now (out .entry))) ⌝ }
+    ensures text { λ _. ⌜ now (out .exit) ≡ lineLeft (listed (now (run .entry))) (now (out .entry)) ⌝ }
+{
+    seen::text(listing::list_run(run, out))
 }
 
 #[no_mangle]

@@ -5,9 +5,11 @@ use checker::CheckAnswer;
 use checker::Survey;
 use kernel_exports::seen::SeenActivePauli;
 use ledger::Ledger;
+use paulitext::TextAnswer;
 use runner::RunAnswer;
 use steps::Read;
 use steps::Step;
+use verdicts::SeenNumber;
 use verdicts::Verdict;
 ghost use mathlib.Core.Path.{_≡_};
 ghost use Rattle.paulilaws.specs.Pauli.{identity};
@@ -16,6 +18,7 @@ ghost use Rattle.steps.specs.Meant.{stepOf, readTold};
 ghost use Rattle.checker.specs.Told.{surveyMeant, checkTold};
 ghost use Rattle.runner.specs.Told.{runTold};
 ghost use Rattle.carrier.specs.Told.{carryTold};
+ghost use Rattle.paulitext.specs.Calls.{textTold};
 ghost use Rattle.verdicts.specs.Verdict.{Seen};
 ghost use Rattle.run_exports.specs.Nothing.{noSurvey, noEnding};
 ghost use Rattle.run_exports.specs.Reading.{stepSeen, bareSeen, readSeen, fieldMeant, readMeant};
@@ -120,6 +123,15 @@ pub(crate) fn carried(answer: CarryAnswer) -> SeenActivePauli
         CarryAnswer::RefusedAt(row, at) => {
             kernel_exports::seen::no_pauli(verdicts::refused_at(row, at))
         }
+    }
+}
+
+pub(crate) fn text(answer: TextAnswer) -> SeenNumber
+    ensures { λ r. ⌜ Seen (r .verdict) (r .number) 0 (textTold answer) ⌝ }
+{
+    match answer {
+        TextAnswer::Length(length) => verdicts::number(length),
+        TextAnswer::Refused(row) => verdicts::no_number(row),
     }
 }
 

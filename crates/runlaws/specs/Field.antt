@@ -7,6 +7,10 @@ use lib.Dec.{leb}
 use lib.ListN.{length}
 use Rattle.runlaws.specs.Bytes.{byteAt, part}
 
+-- the most bytes of a run
+abbrev pub mostBytes : ℕ
+mostBytes = 65536
+
 -- `next` is where the next field's tag stands
 pub record Field : Type 0 where
   pub tag : ℕ

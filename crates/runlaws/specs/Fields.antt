@@ -5,17 +5,18 @@ use mathlib.Core.List.{List}
 use mathlib.Core.Option.{Option, none, some}
 use Prim.Native.Nat.{ℕ, zero, suc, _+_, _≤_}
 use native.Mathlib.Omega.{arith}
-use lib.Dec.{leb, eqb}
+use lib.Dec.{leb, ltb, eqb}
 use lib.Ieee.{Float}
 use lib.ListN.{length, length-take, length-drop}
-use borrow.Author.Tests.{leb-true, lt-leb, eqb-true}
+use borrow.Author.Tests.{leb-true, lt-leb, le-ltb, ltb-false, eqb-true}
 use Rattle.paulilaws.specs.Fitting.{both-left, both-right}
 use Rattle.amplitudelaws.specs.Step.{Step, widthAfter}
 use Rattle.amplitudelaws.specs.Step.Step.{rotation, promotion, projection, correction}
 use Rattle.framelaws.specs.Rows.{stepRow}
 use Rattle.framelaws.specs.Allowed.{Placed}
+use Rattle.framelaws.specs.Passing.{width-kept}
 use Rattle.runlaws.specs.Bytes.{byteAt, floatAt, pauliAt, part}
-use Rattle.runlaws.specs.Field.{Field, bodyLength, isWhole, fieldAt}
+use Rattle.runlaws.specs.Field.{Field, mostBytes, bodyLength, isWhole, fieldAt}
 use Rattle.runlaws.specs.Flags.{fieldSize}
 use Rattle.runlaws.specs.Reading.{Cursor, Read, isField, decoded, unless, judgedBy, judged, readField, readAt}
 use Rattle.runlaws.specs.Reading.Read.{stepRead, endRead, refusedRead}
@@ -107,8 +108,15 @@ decodes-placed (corrects tag size) = refl
 
 -- ---- reads
 
+-- in a run that is not too long, at a width within the limit, the field alone decides
+pub read-within : (limit : ℕ) (s : List ℕ) (c : Cursor) → length s ≤ mostBytes → c .width ≤ limit → readAt limit s c ≡ readField limit c (fieldAt s (c .at))
+unfolding readAt
+read-within limit s c short within = rw (le-ltb mostBytes (length s) short, le-ltb limit (c .width) within)
+
 -- a field at the cursor that is read as a step
 pub record StepField (limit : ℕ) (s : List ℕ) (c d : Cursor) (t : Step Float) : Type 0 where
+  pub short : length s ≤ mostBytes
+  pub within : c .width ≤ limit
   pub field : Field
   pub here : fieldAt s (c .at) ≡ some field
   pub is : Decodes (c .width) field t
@@ -119,6 +127,7 @@ pub record StepRead (limit : ℕ) (s : List ℕ) (c : Cursor) (t : Step Float) (
   pub next : d .at ≡ c .at + fieldSize t
   pub inside : d .at ≤ length s
   pub width : d .width ≡ widthAfter (c .width) t
+  pub within : d .width ≤ limit
   pub row : stepRow limit (c .width) t ≡ 0
   pub placed : Placed (c .width) t
 
@@ -128,10 +137,10 @@ module _ (limit : ℕ) (s : List ℕ) (c : Cursor) where
   StepFieldOr (endRead d) = Unit
   StepFieldOr (refusedRead n at) = Unit
 
-  module _ (f : Field) (here : fieldAt s (c .at) ≡ some f) where
+  module _ (short : length s ≤ mostBytes) (within : c .width ≤ limit) (f : Field) (here : fieldAt s (c .at) ≡ some f) where
     row-read : (t : Step Float) → Decodes (c .width) f t → (r : ℕ) → stepRow limit (c .width) t ≡ r → StepFieldOr (judgedBy r c (f .next) t)
     unfolding StepFieldOr judgedBy unless
-    row-read t is zero e = record { field = f; here = here; is = is; row = e; behind = refl }
+    row-read t is zero e = record { short = short; within = within; field = f; here = here; is = is; row = e; behind = refl }
     row-read t is (suc r) e = tt
 
     judged-read : (o : Option (Step Float)) → decoded (c .width) f ≡ o → StepFieldOr (judged limit c (f .next) o)
@@ -139,24 +148,29 @@ module _ (limit : ℕ) (s : List ℕ) (c : Cursor) where
     judged-read none e = tt
     judged-read (some t) e = row-read t (decodes (c .width) f t e) (stepRow limit (c .width) t) refl
 
-  field-read : (o : Option Field) → fieldAt s (c .at) ≡ o → StepFieldOr (readField limit c o)
+  field-read : length s ≤ mostBytes → c .width ≤ limit → (o : Option Field) → fieldAt s (c .at) ≡ o → StepFieldOr (readField limit c o)
   unfolding StepFieldOr readField
-  field-read none e = tt
-  field-read (some f) e = by-test StepFieldOr (isField 6 0 f) (λ h. tt) (λ h. judged-read f e (decoded (c .width) f) refl)
+  field-read short within none e = tt
+  field-read short within (some f) e = by-test StepFieldOr (isField 6 0 f) (λ h. tt) (λ h. judged-read short within f e (decoded (c .width) f) refl)
 
   pub step-field : (d : Cursor) (t : Step Float) → readAt limit s c ≡ stepRead t d → StepField limit s c d t
   unfolding StepFieldOr readAt
-  step-field d t e = subst StepFieldOr e (field-read (fieldAt s (c .at)) refl)
+  step-field d t e = subst StepFieldOr e
+      (by-test StepFieldOr (ltb mostBytes (length s)) (λ h. tt)
+      (λ h. by-test StepFieldOr (ltb limit (c .width)) (λ k. tt)
+      (λ k. field-read (ltb-false mostBytes (length s) h) (ltb-false limit (c .width) k) (fieldAt s (c .at)) refl)))
 
   pub step-read : (d : Cursor) (t : Step Float) → readAt limit s c ≡ stepRead t d → StepRead limit s c t d
   step-read d t e =
       let k = step-field d t e in
       let w = field-whole s (c .at) (k .field) (k .here) in
       let at : d .at ≡ k .field .next = ap (λ (d : Cursor). d .at) (k .behind) in
+      let width : d .width ≡ widthAfter (c .width) t = ap (λ (d : Cursor). d .width) (k .behind) in
       record {
         next = omega (arith, at, w .next, w .size, decodes-size (k .is));
         inside = omega (arith, at, w .next, w .inside);
-        width = ap (λ (d : Cursor). d .width) (k .behind);
+        width = width;
+        within = rw width (width-kept limit (c .width) t (k .within) (k .row));
         row = k .row;
         placed = decodes-placed (k .is);
       }

@@ -15,6 +15,7 @@ use Rattle.framelaws.specs.Carried.{flagless-carried}
 use Rattle.runlaws.specs.Bytes.{byteAt}
 use Rattle.runlaws.specs.Flags.{fieldSize, flagAt, flagged}
 use Rattle.runlaws.specs.Reading.{Cursor}
+use Rattle.runlaws.specs.Field.{mostBytes}
 use Rattle.runlaws.specs.Run.{Run, walk, runOf}
 use Rattle.runlaws.specs.Calls.{carriedRun}
 use Rattle.runlaws.specs.Fields.{step-read}
@@ -80,13 +81,13 @@ module _ {R : Type 0} where
   inside-carried at [] n Q h = tt
   inside-carried at (t ∷ ts) n Q h = rw (carried-size Q t) (h .0, inside-carried (at + fieldSize t) ts n (passed Q t) (h .1))
 
-walk-inside : (limit fuel : ℕ) (s : List ℕ) (c : Cursor) (ts : List (Step Float)) → length s ≤ c .at + fuel → walk limit fuel s c ≡ accepted ts
-    → Inside (c .at) ts (length s)
-walk-inside limit fuel s c [] h e = tt
-walk-inside limit fuel s c (t ∷ ts) h e =
-    let k = first-step limit fuel s c h t ts e in
+walk-inside : (limit fuel : ℕ) (s : List ℕ) (c : Cursor) (ts : List (Step Float)) → length s ≤ mostBytes → length s ≤ c .at + fuel
+    → walk limit fuel s c ≡ accepted ts → Inside (c .at) ts (length s)
+walk-inside limit fuel s c [] short h e = tt
+walk-inside limit fuel s c (t ∷ ts) short h e =
+    let k = first-step limit fuel s c short h t ts e in
     let r = step-read limit s c (k .behind) t (k .read) in
-    rw (← r .next) (r .inside, walk-inside limit (fuel - 1) s (k .behind) ts (k .enough) (k .walked))
+    rw (← r .next) (r .inside, walk-inside limit (fuel - 1) s (k .behind) ts short (k .enough) (k .walked))
 
 pub carried-append : (limit : ℕ) (s rest : List ℕ) (Q : Pauli) (R : Run) → runOf limit s ≡ accepted R
     → flagged 4 (carriedSteps Q (R .steps)) (s ++ rest) ≡ carriedRun Q R s ++ rest
@@ -94,4 +95,4 @@ unfolding carriedRun
 carried-append limit s rest Q R e =
     let r = run-allowed limit s R e in
     flags-append 4 (carriedSteps Q (R .steps)) s rest (inside-carried 4 (R .steps) (length s) Q
-    (walk-inside limit (length s) s (record { at = 4; width = R .width }) (R .steps) (omega arith) (r .walked)))
+    (walk-inside limit (length s) s (record { at = 4; width = R .width }) (R .steps) (r .short) (omega arith) (r .walked)))

@@ -1,5 +1,7 @@
 -- The sign and branch bytes of a run's fields. Assumes nothing.
+use mathlib.Core.Path.{_≡_}
 use mathlib.Core.List.{List, [], _∷_}
+use mathlib.Core.Logic.{_⊎_}
 use Prim.Native.Nat.{ℕ, _+_}
 use lib.ListN.{set}
 use Rattle.amplitudelaws.specs.Step.{Step}
@@ -24,3 +26,15 @@ module _ {R : Type 0} where
   unfoldable pub flagged : ℕ → List (Step R) → List ℕ → List ℕ
   flagged at [] bytes = bytes
   flagged at (t ∷ ts) bytes = flagged (at + fieldSize t) ts (flagAt at t bytes)
+
+  -- i is the place of a step's sign or branch, its field beginning at `at`
+  abbrev pub FlagOf : ℕ → Step R → ℕ → Type 0
+  FlagOf at (rotation P sign c s) i = i ≡ at + 20
+  FlagOf at (promotion c q) i = ⊥
+  FlagOf at (projection M p v invnorm) i = i ≡ at + 21
+  FlagOf at (correction P) i = ⊥
+
+  -- or of one of the steps, the first step's field beginning at `at`
+  abbrev pub FlagIn : ℕ → List (Step R) → ℕ → Type 0
+  FlagIn at [] i = ⊥
+  FlagIn at (t ∷ ts) i = FlagOf at t i ⊎ FlagIn (at + fieldSize t) ts i

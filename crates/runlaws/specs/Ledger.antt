@@ -1,9 +1,8 @@
 -- The service's ledger: runs offered, finished and refused, each count going round to 0 after 2^64 - 1. Assumes nothing.
-use mathlib.Core.Bool.{Bool, true, false, not}
+use mathlib.Core.Bool.{Bool, true, not}
 use mathlib.Core.List.{List, [], _∷_}
 use Prim.Native.Nat.{ℕ, _+_, _%_, _^_}
-use Rattle.answers.specs.Answer.{Answer}
-use Rattle.answers.specs.Answer.Answer.{accepted, refused, refusedAt}
+use Rattle.answers.specs.Answer.{isAccepted}
 use Rattle.bitlaws.specs.Digit.{bitOf}
 use Rattle.framelaws.specs.Memory.{Memory}
 use Rattle.runlaws.specs.Calls.{running}
@@ -27,11 +26,6 @@ counted t L = record {
   finished = raisedBy t (L .finished);
   refused = raisedBy (not t) (L .refused);
 }
-
-unfoldable pub isAccepted : {A : Type 0} → Answer A → Bool
-isAccepted (accepted a) = true
-isAccepted (refused n) = false
-isAccepted (refusedAt n at) = false
 
 -- a run offered, and what is lent with it
 pub record Call : Type 0 where

@@ -14,5 +14,7 @@ pub mod Outcomes
 pub mod OwnBytes
 pub mod Flagged
 pub mod Reread
+pub mod Altered
+pub mod Frame
 pub mod Theorem
 pub mod Exact

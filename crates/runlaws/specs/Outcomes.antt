@@ -8,11 +8,11 @@ use lib.Dec.{eqb, ltb, lit<}
 use lib.Ieee.{Float}
 use lib.ListN.{length, drop}
 use borrow.Author.Tests.{eqb-true, ltb-false, not-false}
-use Rattle.answers.specs.Answer.{Answer}
+use Rattle.answers.specs.Answer.{Answer, isAccepted}
 use Rattle.answers.specs.Answer.Answer.{accepted, refused, refusedAt}
 use Rattle.answers.specs.Row.{row, answered, left, refused-accepted, refusedAt-accepted, accepted-row, answered-none, left-none, row-passed}
 use Rattle.paulilaws.specs.Pauli.{Pauli, fits}
-use Rattle.paulilaws.specs.Fitting.{Fitting, fits-fitting, both-left, both-right}
+use Rattle.paulilaws.specs.Fitting.{Admitted, fits-admitted, both-left, both-right}
 use Rattle.amplitudelaws.specs.Rows.{roomRow}
 use Rattle.amplitudelaws.specs.State.{roomFor, room}
 use Rattle.framelaws.specs.Allowed.{Allowed}
@@ -24,7 +24,6 @@ use Rattle.framelaws.specs.Survey.{Survey}
 use Rattle.framelaws.specs.Surveyed.{survey-width}
 use Rattle.runlaws.specs.Run.{Run, runOf}
 use Rattle.runlaws.specs.Calls.{Outcome, onRun, byRow, surveyOf, Ending, endingOf, memoryRow, running, carryingRow, carriedRun, carrying}
-use Rattle.runlaws.specs.Ledger.{isAccepted}
 use Rattle.runlaws.specs.WholeRun.{run-allowed}
 
 -- a call that has done its work: the run that it read, and no row of its own
@@ -114,14 +113,14 @@ ending-within limit s m E e =
 -- ---- carrying
 
 -- Q is a Pauli on the start qubits, and the output has room
-pub carrying-passed : (Q : Pauli) (width size room : ℕ) → carryingRow Q width size room ≡ 0 → Fitting Q × (Q .n ≡ width) × (size ≤ room)
+pub carrying-passed : (Q : Pauli) (width size room : ℕ) → carryingRow Q width size room ≡ 0 → Admitted Q × (Q .n ≡ width) × (size ≤ room)
 unfolding carryingRow
 carrying-passed Q width size room e =
     let sixteen = row (ltb room size) 16 0 in
     let a = row-passed (not (fits Q)) 3 (row (not (eqb (Q .n) width)) 4 sixteen) (lit< tt) e in
     let b = row-passed (not (eqb (Q .n) width)) 4 sixteen (lit< tt) (a .1) in
     let c = row-passed (ltb room size) 16 0 (lit< tt) (b .1) in
-    (fits-fitting Q (not-false (fits Q) (a .0)), eqb-true (Q .n) width (not-false (eqb (Q .n) width) (b .0)), ltb-false room size (c .0))
+    (fits-admitted Q (not-false (fits Q) (a .0)), eqb-true (Q .n) width (not-false (eqb (Q .n) width) (b .0)), ltb-false room size (c .0))
 
 module _ (limit : ℕ) (s : List ℕ) (Q : Pauli) (out : List ℕ) where
   abbrev carryRow : Run → ℕ
@@ -136,6 +135,10 @@ module _ (limit : ℕ) (s : List ℕ) (Q : Pauli) (out : List ℕ) where
   pub carrying-done : (end : Pauli) → carrying limit s Q out .answer ≡ accepted end → Done (runOf limit s) (carrying limit s Q out) carryRow ending output end
   unfolding carrying
   carrying-done end e = done carryRow ending output out (runOf limit s) end e
+
+  pub carrying-answers : (R : Run) → runOf limit s ≡ accepted R → carryRow R ≡ 0 → (carrying limit s Q out .answer ≡ accepted (ending R)) × (carrying limit s Q out .lent ≡ output R)
+  unfolding carrying
+  carrying-answers R e z = answers carryRow ending output out (runOf limit s) R e z
 
   -- a refused call leaves the output as it was
   pub carrying-kept : isAccepted (carrying limit s Q out .answer) ≡ false → carrying limit s Q out .lent ≡ out

@@ -89,7 +89,7 @@ field-set s at i v f e h =
 pub read-same : (limit : ℕ) (s s' : List ℕ) (c : Cursor) → length s' ≡ length s
     → ((i : ℕ) → c .at ≤ i → i < c .at + 3 + bodyLength s (c .at) → byteAt s' i ≡ byteAt s i) → readAt limit s' c ≡ readAt limit s c
 unfolding readAt
-read-same limit s s' c long same = rw (field-same s s' (c .at) long same)
+read-same limit s s' c long same = rw (long, field-same s s' (c .at) long same)
 
 pub walk-same : (limit fuel : ℕ) (s s' : List ℕ) (c : Cursor) → length s' ≡ length s → ((i : ℕ) → c .at ≤ i → byteAt s' i ≡ byteAt s i)
     → walk limit fuel s' c ≡ walk limit fuel s c

@@ -3,14 +3,14 @@ use mathlib.Core.Bool.{Bool, cond, _&&_}
 use mathlib.Core.List.{List}
 use mathlib.Core.Option.{Option, none, some}
 use Prim.Native.Nat.{ℕ, zero, suc}
-use lib.Dec.{eqb}
+use lib.Dec.{ltb, eqb}
 use lib.Ieee.{Float}
 use lib.ListN.{length}
 use Rattle.amplitudelaws.specs.Step.{Step, widthAfter}
 use Rattle.amplitudelaws.specs.Step.Step.{rotation, promotion, projection, correction}
 use Rattle.framelaws.specs.Rows.{stepRow}
 use Rattle.runlaws.specs.Bytes.{byteAt, floatAt, pauliAt}
-use Rattle.runlaws.specs.Field.{Field, fieldAt}
+use Rattle.runlaws.specs.Field.{Field, mostBytes, fieldAt}
 
 -- where the next field stands, and the width there
 pub record Cursor : Type 0 where
@@ -55,6 +55,9 @@ readField limit c none = refusedRead 14 (c .at)
 readField limit c (some f) =
     cond (isField 6 0 f) (endRead (record { at = f .next; width = c .width })) (judged limit c (f .next) (decoded (c .width) f))
 
--- the field at a cursor of the run, under a limit on the width
+-- The field at a cursor of the run, under a limit on the width. A run that is too long is 14 at 0 before its fields; a field at a width over the
+-- limit stands in a wrong place, to which no run leads, and is 14 there.
 unfoldable pub readAt : ℕ → List ℕ → Cursor → Read
-readAt limit s c = readField limit c (fieldAt s (c .at))
+readAt limit s c =
+    cond (ltb mostBytes (length s)) (refusedRead 14 0)
+    (cond (ltb limit (c .width)) (refusedRead 14 (c .at)) (readField limit c (fieldAt s (c .at))))

@@ -15,13 +15,13 @@ use Rattle.framelaws.specs.Rows.{stepRow}
 use Rattle.framelaws.specs.Carrying.{flipped, carriedStep, passed, carriedSteps}
 use Rattle.framelaws.specs.Carried.{row-carried}
 use Rattle.runlaws.specs.Bytes.{byteAt, floatAt, pauliAt}
-use Rattle.runlaws.specs.Field.{Field, fieldAt}
+use Rattle.runlaws.specs.Field.{Field, mostBytes, fieldAt}
 use Rattle.runlaws.specs.Flags.{fieldSize, flagAt, flagged}
-use Rattle.runlaws.specs.Reading.{Cursor, readAt}
+use Rattle.runlaws.specs.Reading.{Cursor, readField, readAt}
 use Rattle.runlaws.specs.Reading.Read.{stepRead}
 use Rattle.runlaws.specs.Run.{Run, mapped, follow, walk, startWidth, runOf}
 use Rattle.runlaws.specs.Calls.{carriedRun}
-use Rattle.runlaws.specs.Fields.{Decodes, field-whole, read-decodes, step-field, step-read}
+use Rattle.runlaws.specs.Fields.{Decodes, field-whole, read-decodes, read-within, step-field, step-read}
 use Rattle.runlaws.specs.Walk.{walk-by, first-step}
 use Rattle.runlaws.specs.WholeRun.{start-read, run-begun, run-allowed}
 use Rattle.runlaws.specs.Fields.Decodes.{rotates, promotes, projects, corrects}
@@ -53,8 +53,8 @@ module _ (n : ℕ) (f : Field) (v : ℕ) where
 
 module _ (limit : ℕ) (s : List ℕ) (c : Cursor) (Q : Pauli) where
   field-carried : (f : Field) {t : Step Float} → fieldAt s (c .at) ≡ some f → Decodes (c .width) f t → stepRow limit (c .width) (carriedStep Q t) ≡ 0
-      → readAt limit (flagAt (c .at) (carriedStep Q t) s) c ≡ stepRead (carriedStep Q t) (record { at = f .next; width = widthAfter (c .width) t })
-  unfolding readAt flagAt carriedStep widthAfter
+      → readField limit c (fieldAt (flagAt (c .at) (carriedStep Q t) s) (c .at)) ≡ stepRead (carriedStep Q t) (record { at = f .next; width = widthAfter (c .width) t })
+  unfolding flagAt carriedStep widthAfter
   field-carried f here (rotates tag size) e =
       let v : ℕ = flipped Q (pauliAt (c .width) (f .body)) (byteAt (f .body) 17) in
       let place : c .at + 20 ≡ c .at + 3 + 17 = omega arith in
@@ -71,15 +71,17 @@ module _ (limit : ℕ) (s : List ℕ) (c : Cursor) (Q : Pauli) where
       → readAt limit (flagAt (c .at) (carriedStep Q t) s) c ≡ stepRead (carriedStep Q t) d
   step-carried d t e =
       let k = step-field limit s c d t e in
-      field-carried (k .field) (k .here) (k .is) (row-carried limit (c .width) Q t (k .row)) ∙ ap (stepRead (carriedStep Q t)) (sym (k .behind))
+      read-within limit (flagAt (c .at) (carriedStep Q t) s) c (omega (arith, flag-length (c .at) (carriedStep Q t) s, k .short)) (k .within)
+      ∙ field-carried (k .field) (k .here) (k .is) (row-carried limit (c .width) Q t (k .row))
+      ∙ ap (stepRead (carriedStep Q t)) (sym (k .behind))
 
 -- ---- the whole run
 
 -- a step and what the walk behind it gives
-walk-step : (limit fuel : ℕ) (s : List ℕ) (c d : Cursor) (t : Step Float) (ts : List (Step Float)) → length s ≤ c .at + fuel → readAt limit s c ≡ stepRead t d
-    → walk limit (fuel - 1) s d ≡ accepted ts → walk limit fuel s c ≡ accepted (t ∷ ts)
+walk-step : (limit fuel : ℕ) (s : List ℕ) (c d : Cursor) (t : Step Float) (ts : List (Step Float)) → length s ≤ mostBytes → length s ≤ c .at + fuel
+    → readAt limit s c ≡ stepRead t d → walk limit (fuel - 1) s d ≡ accepted ts → walk limit fuel s c ≡ accepted (t ∷ ts)
 unfolding follow mapped
-walk-step limit fuel s c d t ts h e rest = walk-by limit fuel s c h ∙ rw (e, rest)
+walk-step limit fuel s c d t ts short h e rest = walk-by limit fuel s c short h ∙ rw (e, rest)
 
 -- flags behind a field do not touch it
 read-before : (limit : ℕ) (s : List ℕ) (c d : Cursor) (t : Step Float) (ts : List (Step Float)) → readAt limit s c ≡ stepRead t d
@@ -90,12 +92,12 @@ read-before limit s c d t ts e =
     let next : d .at ≡ k .field .next = ap (λ (d : Cursor). d .at) (k .behind) in
     read-same limit s (flagged (d .at) ts s) c (flags-length (d .at) ts s) (λ i b h. flags-kept (d .at) ts s i (omega (arith, next, w .next))) ∙ e
 
-walk-carried : (limit fuel : ℕ) (ts : List (Step Float)) (s : List ℕ) (c : Cursor) (Q : Pauli) → length s ≤ c .at + fuel → walk limit fuel s c ≡ accepted ts
-    → walk limit fuel (flagged (c .at) (carriedSteps Q ts) s) c ≡ accepted (carriedSteps Q ts)
+walk-carried : (limit fuel : ℕ) (ts : List (Step Float)) (s : List ℕ) (c : Cursor) (Q : Pauli) → length s ≤ mostBytes → length s ≤ c .at + fuel
+    → walk limit fuel s c ≡ accepted ts → walk limit fuel (flagged (c .at) (carriedSteps Q ts) s) c ≡ accepted (carriedSteps Q ts)
 unfolding flagged carriedSteps
-walk-carried limit fuel [] s c Q h e = e
-walk-carried limit fuel (t ∷ ts) s c Q h e =
-    let k = first-step limit fuel s c h t ts e in
+walk-carried limit fuel [] s c Q short h e = e
+walk-carried limit fuel (t ∷ ts) s c Q short h e =
+    let k = first-step limit fuel s c short h t ts e in
     let d : Cursor = k .behind in
     let t' : Step Float = carriedStep Q t in
     let ts' : List (Step Float) = carriedSteps (passed Q t) ts in
@@ -105,9 +107,9 @@ walk-carried limit fuel (t ∷ ts) s c Q h e =
     let same : walk limit (fuel - 1) one d ≡ accepted ts
     = walk-same limit (fuel - 1) s one d (flag-length (c .at) t' s) (λ i behind. flag-kept (c .at) t' s i (λ b e. omega arith)) ∙ k .walked in
     let rest : walk limit (fuel - 1) all d ≡ accepted ts'
-    = walk-carried limit (fuel - 1) ts one d (passed Q t) (omega (arith, flag-length (c .at) t' s, k .enough)) same in
+    = walk-carried limit (fuel - 1) ts one d (passed Q t) (omega (arith, flag-length (c .at) t' s)) (omega (arith, flag-length (c .at) t' s, k .enough)) same in
     subst (λ (n : ℕ). walk limit fuel (flagged n ts' one) c ≡ accepted (t' ∷ ts')) next
-    (walk-step limit fuel all c d t' ts' (omega (arith, flags-length (d .at) ts' one, flag-length (c .at) t' s))
+    (walk-step limit fuel all c d t' ts' (omega (arith, flags-length (d .at) ts' one, flag-length (c .at) t' s)) (omega (arith, flags-length (d .at) ts' one, flag-length (c .at) t' s))
     (read-before limit one c d t' ts' (step-carried limit s c Q d t (k .read))) rest)
 
 pub carried-length : (Q : Pauli) (R : Run) (s : List ℕ) → length (carriedRun Q R s) ≡ length s
@@ -126,5 +128,5 @@ reread limit s Q R e =
     let start : startWidth limit (fieldAt all 0) ≡ some (R .width)
     = ap (startWidth limit) (field-same s all 0 long (λ i h k. flags-kept 4 ts s i (omega (arith, b .size)))) ∙ r .start in
     let walked : walk limit (length all) all (record { at = 4; width = R .width }) ≡ accepted ts
-    = rw long (walk-carried limit (length s) (R .steps) s (record { at = 4; width = R .width }) Q (omega arith) (r .walked)) in
+    = rw long (walk-carried limit (length s) (R .steps) s (record { at = 4; width = R .width }) Q (r .short) (omega arith) (r .walked)) in
     run-begun limit all (omega (arith, r .short)) (R .width) start ∙ rw walked

@@ -10,7 +10,7 @@ use Rattle.answers.specs.Answer.{Answer}
 use Rattle.answers.specs.Answer.Answer.{accepted, refused, refusedAt}
 use Rattle.amplitudelaws.specs.Step.{Step}
 use Rattle.runlaws.specs.Bytes.{byteAt}
-use Rattle.runlaws.specs.Field.{Field, fieldAt}
+use Rattle.runlaws.specs.Field.{Field, mostBytes, fieldAt}
 use Rattle.runlaws.specs.Reading.{Cursor, Read, isField, readAt}
 use Rattle.runlaws.specs.Reading.Read.{stepRead, endRead, refusedRead}
 
@@ -18,10 +18,7 @@ pub record Run : Type 0 where
   pub width : ℕ
   pub steps : List (Step Float)
 
--- the most bytes of a run, and the widest state of the service's runs
-abbrev pub mostBytes : ℕ
-mostBytes = 65536
-
+-- the widest state of the service's runs
 abbrev pub widestRun : ℕ
 widestRun = 12
 

@@ -1,74 +1,45 @@
--- The frame theorem. A Pauli Q fired before a run, or the run carried past Q and the end Pauli fired behind it: the same last width, the same number of
--- steps and, where every amplitude of the carried run is finite, the same number in every amplitude. Assumes nothing.
+-- The frame theorem, proved: Frame.antt states it. Under any limit at which every state can still be corrected, and so at the service's. Assumes nothing.
 use mathlib.Core.Path.{_≡_, sym, ap, _∙_, subst}
 use mathlib.Core.Bool.{true}
 use mathlib.Core.List.{List, _++_}
 use mathlib.Core.Logic.{_⊎_}
 use mathlib.Core.Option.{some}
-use Prim.Native.Nat.{ℕ, _^_, _≤_, _<_}
+use Prim.Native.Nat.{ℕ, _≤_}
 use native.Mathlib.Nat.{le-trans}
 use native.Mathlib.Omega.{arith}
-use lib.Dec.{T}
-use lib.Ieee.{Float}
+use lib.Dec.{leb→le}
 use lib.ListN.{length, take, drop}
-use lib.Seq.{take-at}
-use borrow.Author.Tests.{le-ltb}
+use lib.Seq.{take-at, drop-at}
+use borrow.Author.Tests.{le-ltb, eq-eqb}
+use Rattle.answers.specs.Answer.{isAccepted}
 use Rattle.answers.specs.Answer.Answer.{accepted}
-use Rattle.answers.specs.Row.{row, first, accepted-same}
-use Rattle.floatlaws.specs.Same.{isZero, same-says}
+use Rattle.answers.specs.Row.{row, first, accepted-same, accepted-value, left-some, left-none, some-row}
+use Rattle.floatlaws.specs.Same.{same-says}
 use Rattle.paulilaws.specs.Pauli.{Pauli, mostQubits}
-use Rattle.paulilaws.specs.Fitting.{Fitting, fitting-fits}
+use Rattle.paulilaws.specs.Fitting.{Admitted, admitted-fits}
 use Rattle.amplitudelaws.specs.Binary.{binary}
 use Rattle.amplitudelaws.specs.Correction.{corrected}
 use Rattle.amplitudelaws.specs.Rows.{correctionRow, widthRow, roomRow, widestKernel}
 use Rattle.amplitudelaws.specs.State.{State, point, roomFor, room}
+use Rattle.amplitudelaws.specs.Step.{lastWidth}
 use Rattle.amplitudelaws.specs.Steps.{correction}
-use Rattle.framelaws.specs.Allowed.{FiniteSteps}
 use Rattle.framelaws.specs.Carried.{survey-carried}
 use Rattle.framelaws.specs.Carrying.{carriedSteps, endPauli}
 use Rattle.framelaws.specs.Fitted.{fitting-end}
 use Rattle.framelaws.specs.Kept.{written-lengths, ran-sizes, room-kept, room-under}
 use Rattle.framelaws.specs.List.{frame-over-steps}
 use Rattle.framelaws.specs.Memory.{Memory, ran}
-use Rattle.amplitudelaws.specs.Step.{lastWidth}
 use Rattle.framelaws.specs.Survey.{Survey, survey}
 use Rattle.framelaws.specs.Surveyed.{survey-width, survey-greatest, survey-greatest-last}
-use Rattle.runlaws.specs.Field.{fieldAt}
-use Rattle.runlaws.specs.Run.{Run, runOf, startWidth}
+use Rattle.runlaws.specs.Bytes.{byteAt}
+use Rattle.runlaws.specs.Flags.{FlagIn}
+use Rattle.runlaws.specs.Run.{Run, widestRun, runOf}
 use Rattle.runlaws.specs.Calls.{Ending, endingOf, surveyOf, memoryRow, running, carryingRow, carriedRun, carrying}
-use Rattle.runlaws.specs.Outcomes.{room-both, running-done, running-answers, carrying-passed, carrying-done}
+use Rattle.runlaws.specs.Frame.{Agreeing, fired, sent, Accepted, Frame, FrameTheorem}
+use Rattle.runlaws.specs.Altered.{altered}
+use Rattle.runlaws.specs.Outcomes.{room-both, running-done, running-answers, running-kept, carrying-passed, carrying-done, carrying-answers, carrying-kept}
 use Rattle.runlaws.specs.Reread.{carried-length, reread}
 use Rattle.runlaws.specs.WholeRun.{run-allowed}
-
--- equal, or both zeros
-abbrev pub SameNumber : Float → Float → Type 0
-SameNumber x y = (x ≡ y) ⊎ (T (isZero x) × T (isZero y))
-
--- two states that agree in the amplitudes of n qubits, whatever lies past them
-pub record Agreeing (n : ℕ) (S T : State) : Type 0 where
-  pub at : (b : ℕ) → b < 2 ^ n → point S b ≡ point T b
-
--- every amplitude of the run is finite at its start and after each step
-abbrev pub FiniteRun : ℕ → List ℕ → Memory → Type 0
-FiniteRun limit s m = (R : Run) → runOf limit s ≡ accepted R → FiniteSteps (R .width) (R .steps) m
-
--- Q fired on the state
-abbrev pub fired : Pauli → Memory → Memory
-fired Q m = record { state = correction Q (m .state); scratch = m .scratch }
-
--- Of a run s, a Pauli Q and what carrying gives: the carried run t and the end Pauli. On m Q is fired first and s is run; on u t is run and the end Pauli is
--- fired behind it.
-pub record Frame (limit : ℕ) (s t : List ℕ) (Q end : Pauli) (m u : Memory) (E : Ending) : Type 0 where
-  -- Q is on the start field's qubits
-  pub start : startWidth limit (fieldAt s 0) ≡ some (Q .n)
-  -- no row refuses to fire Q, or to run s then
-  pub before : correctionRow Q (m .state) ≡ 0
-  pub plain : running limit s (fired Q m) .answer ≡ accepted E
-  -- the carried run is accepted, with the same last width and step count; nor is the end Pauli refused
-  pub carried : running limit t u .answer ≡ accepted E
-  pub behind : correctionRow end (running limit t u .lent .state) ≡ 0
-  pub same : FiniteRun limit t u → (b : ℕ) → b < 2 ^ E .width
-      → let one = point (running limit s (fired Q m) .lent .state) b in let other = point (correction end (running limit t u .lent .state)) b in SameNumber (one .re) (other .re) × SameNumber (one .im) (other .im)
 
 -- ---- what the rows of the calls let pass
 
@@ -77,24 +48,60 @@ unfolding memoryRow roomRow row
 room-row v m a b = rw (a, b)
 
 -- no row refuses to fire a Pauli that has its room
-may-fire : (P : Pauli) (S : State) → Fitting P → P .n ≤ widestKernel → room (P .n) S ≡ true → correctionRow P S ≡ 0
+may-fire : (P : Pauli) (S : State) → Admitted P → P .n ≤ widestKernel → room (P .n) S ≡ true → correctionRow P S ≡ 0
 unfolding correctionRow widthRow roomRow row first
-may-fire P S f h r = rw (fitting-fits P f, le-ltb widestKernel (P .n) h, r)
+may-fire P S f h r = rw (admitted-fits P f, le-ltb widestKernel (P .n) h, r)
 
-module _ (limit : ℕ) (s out : List ℕ) (Q end : Pauli) (m u : Memory) (E : Ending) (narrow : limit ≤ widestKernel) where
-  -- the carried run, as the call leaves it in the output
-  abbrev sent : List ℕ
-  sent = take (length s) (carrying limit s Q out .lent)
+-- or to carry one through a run of its own width
+may-carry : (Q : Pauli) (width size room : ℕ) → Admitted Q → Q .n ≡ width → size ≤ room → carryingRow Q width size room ≡ 0
+unfolding carryingRow row
+may-carry Q width size room f e h = rw (admitted-fits Q f, eq-eqb (Q .n) width e, le-ltb room size h)
+
+-- what firing leaves, where a row refuses it and where none does
+fired-refused : (P : Pauli) (m : Memory) → (correctionRow P (m .state) ≡ 0 → ⊥) → fired P m ≡ m
+unfolding fired
+fired-refused P m h =
+    ap (λ (S : State). record { state = S; scratch = m .scratch }) (left-some _ (correction P (m .state)) (m .state) (some-row (correctionRow P (m .state)) h))
+
+-- the state with P's correction
+abbrev shot : Pauli → Memory → Memory
+shot P m = record { state = correction P (m .state); scratch = m .scratch }
+
+fired-done : (P : Pauli) (m : Memory) → correctionRow P (m .state) ≡ 0 → fired P m ≡ shot P m
+unfolding fired
+fired-done P m h = ap (λ (S : State). record { state = S; scratch = m .scratch }) (left-none _ (correction P (m .state)) (m .state) h)
+
+-- ---- the accepted half
+
+module _ (limit : ℕ) (narrow : limit ≤ widestKernel) (s out : List ℕ) (Q : Pauli) (m u : Memory) where
+  -- the carried run
+  abbrev t : List ℕ
+  t = sent limit s Q out
 
   module _ (R : Run) (read : runOf limit s ≡ accepted R) (here : memoryRow (surveyOf R) m ≡ 0) (there : memoryRow (surveyOf R) u ≡ 0)
-      (fitting : Fitting Q) (width : Q .n ≡ R .width) (ending : E ≡ endingOf (surveyOf R)) (is-end : end ≡ endPauli Q (R .steps)) (is-sent : sent ≡ carriedRun Q R s)
-      (agree : Agreeing (Q .n) (m .state) (u .state)) where
+      (admitted : Admitted Q) (width : Q .n ≡ R .width) (answer : carrying limit s Q out .answer ≡ accepted (endPauli Q (R .steps)))
+      (output : carrying limit s Q out .lent ≡ carriedRun Q R s ++ drop (length s) out) (agree : Agreeing (Q .n) (m .state) (u .state)) where
     -- the run that the carried bytes are read as
     abbrev carriedOf : Run
     carriedOf = record { width = R .width; steps = carriedSteps Q (R .steps) }
 
     abbrev last : ℕ
     last = lastWidth (R .width) (R .steps)
+
+    abbrev E : Ending
+    E = endingOf (surveyOf R)
+
+    abbrev end : Pauli
+    end = endPauli Q (R .steps)
+
+    is-sent : t ≡ carriedRun Q R s
+    is-sent = ap (take (length s)) output ∙ take-at (carriedRun Q R s) (drop (length s) out) (length s) (carried-length Q R s)
+
+    size : length t ≡ length s
+    size = ap length is-sent ∙ carried-length Q R s
+
+    flags : (i : ℕ) → (byteAt t i ≡ byteAt s i) ⊎ FlagIn 4 (R .steps) i
+    flags = rw is-sent (altered Q R s)
 
     greatest : survey (R .width) (R .steps) .greatest ≤ surveyOf R .greatest
     unfolding surveyOf
@@ -106,64 +113,91 @@ module _ (limit : ℕ) (s out : List ℕ) (Q end : Pauli) (m u : Memory) (E : En
 
     last-width : E .width ≡ last
     unfolding surveyOf
-    last-width = ap (λ (e : Ending). e .width) ending ∙ survey-width (R .width) (R .steps)
+    last-width = survey-width (R .width) (R .steps)
 
-    sent-read : runOf limit sent ≡ accepted carriedOf
+    sent-read : runOf limit t ≡ accepted carriedOf
     sent-read = rw is-sent (reread limit s Q R read)
 
-    sent-runs : (running limit sent u .answer ≡ accepted E) × (running limit sent u .lent ≡ ran (R .width) (carriedSteps Q (R .steps)) u)
+    sent-runs : (running limit t u .answer ≡ accepted E) × (running limit t u .lent ≡ ran (R .width) (carriedSteps Q (R .steps)) u)
     sent-runs =
-        let known = running-answers limit sent u carriedOf sent-read (rw same-survey there) in
-        (known .0 ∙ ap (λ (v : Survey). accepted (endingOf v)) same-survey ∙ ap accepted (sym ending), known .1)
+        let known = running-answers limit t u carriedOf sent-read (rw same-survey there) in
+        (known .0 ∙ ap (λ (v : Survey). accepted (endingOf v)) same-survey, known .1)
 
-    fired-room : memoryRow (surveyOf R) (fired Q m) ≡ 0
+    sent-carries : (o : List ℕ) → length s ≤ length o → isAccepted (carrying limit t Q o .answer) ≡ true
+    unfolding isAccepted
+    sent-carries o h = rw (carrying-answers limit t Q o carriedOf sent-read (may-carry Q (R .width) (length t) (length o) admitted width (rw size h)) .0)
+
+    shot-room : memoryRow (surveyOf R) (shot Q m) ≡ 0
     unfolding correction
-    fired-room =
+    shot-room =
         let both = room-both (surveyOf R) m here in
-        room-row (surveyOf R) (fired Q m) (room-kept (surveyOf R .greatest) (written-lengths (Q .n) (corrected binary Q (point (m .state))) (m .state)) (both .0)) (both .1)
+        room-row (surveyOf R) (shot Q m) (room-kept (surveyOf R .greatest) (written-lengths (Q .n) (corrected binary Q (point (m .state))) (m .state)) (both .0)) (both .1)
 
-    fired-runs : (running limit s (fired Q m) .answer ≡ accepted E) × (running limit s (fired Q m) .lent ≡ ran (R .width) (R .steps) (fired Q m))
-    fired-runs = let known = running-answers limit s (fired Q m) R read fired-room in (known .0 ∙ ap accepted (sym ending), known .1)
+    shot-runs : (running limit s (shot Q m) .answer ≡ accepted E) × (running limit s (shot Q m) .lent ≡ ran (R .width) (R .steps) (shot Q m))
+    shot-runs = running-answers limit s (shot Q m) R read shot-room
 
-    assembled : Frame limit s sent Q end m u E
+    assembled : Frame limit s out Q m u
     assembled =
         let run = run-allowed limit s R read in
-        let most : limit ≤ mostQubits = le-trans narrow (lib.Dec.leb→le widestKernel mostQubits tt) in
+        let fitting = admitted .fitting in
         let g : ℕ = surveyOf R .greatest in
         let roomM : room g (m .state) ≡ true = room-both (surveyOf R) m here .0 in
         let roomU : room g (u .state) ≡ true = room-both (surveyOf R) u there .0 in
         let wide : R .width ≤ g = le-trans (survey-greatest (R .width) (R .steps)) greatest in
-        let final = fitting-end limit (R .width) Q (R .steps) most (run .width) (run .allowed) fitting width in
+        let final = fitting-end limit (R .width) Q (R .steps) (run .width) (run .allowed) fitting width in
+        let near : end .n ≤ widestKernel = rw (final .width) (le-trans (final .within) narrow) in
+        let admitted-end : Admitted end = record { fitting = final .fitting; width = le-trans near (leb→le widestKernel mostQubits tt) } in
         let far : last ≤ g = le-trans (survey-greatest-last (R .width) (R .steps)) greatest in
+        let before : correctionRow Q (m .state) ≡ 0
+        = may-fire Q (m .state) admitted (rw width (le-trans (run .width) narrow)) (rw width (room-under (R .width) g (m .state) wide roomM)) in
+        let behind : correctionRow end (ran (R .width) (carriedSteps Q (R .steps)) u .state) ≡ 0
+        = may-fire end _ admitted-end near
+        (rw (final .width) (room-under last g _ far (room-kept g (ran-sizes (R .width) (carriedSteps Q (R .steps)) u .state) roomU))) in
         record {
-          start = run .start ∙ ap some (sym width);
-          before = may-fire Q (m .state) fitting (rw width (le-trans (run .width) narrow)) (rw width (room-under (R .width) g (m .state) wide roomM));
-          plain = fired-runs .0;
+          end = end;
+          ending = E;
+          ends = answer;
+          first = run .start ∙ ap some (sym width);
+          last = final .width ∙ sym last-width;
+          size = size;
+          flags = λ r was. subst (λ (r : Run). (i : ℕ) → (byteAt t i ≡ byteAt s i) ⊎ FlagIn 4 (r .steps) i) (accepted-same (sym read ∙ was)) flags;
+          tail = ap (drop (length s)) output ∙ drop-at (carriedRun Q R s) (drop (length s) out) (length s) (carried-length Q R s);
+          before = before;
+          plain = rw (fired-done Q m before) (shot-runs .0);
           carried = sent-runs .0;
-          behind = rw (sent-runs .1, is-end)
-              (may-fire (endPauli Q (R .steps)) (ran (R .width) (carriedSteps Q (R .steps)) u .state) (final .fitting) (rw (final .width) (le-trans (final .within) narrow))
-              (rw (final .width)
-              (room-under last g _ far (room-kept g (ran-sizes (R .width) (carriedSteps Q (R .steps)) u .state) roomU))));
+          again = sent-carries;
+          behind = rw (sent-runs .1) behind;
           same = λ finite b h.
-              let alike = frame-over-steps limit g (R .steps) (R .width) Q m u most (run .width) (run .allowed) fitting width roomM roomU greatest (finite carriedOf sent-read)
+              let alike = frame-over-steps limit g (R .steps) (R .width) Q m u (run .width) (run .allowed) fitting width roomM roomU greatest (finite carriedOf sent-read)
               (λ b h. agree .at b (rw width h)) b (rw last-width at h) in
-              rw (sent-runs .1, fired-runs .1, is-end) (same-says _ _ (alike .res), same-says _ _ (alike .ims));
+              rw (sent-runs .1, fired-done Q m before, shot-runs .1, fired-done end (ran (R .width) (carriedSteps Q (R .steps)) u) behind)
+              (same-says _ _ (alike .res), same-says _ _ (alike .ims));
         }
 
-  -- DEMAND 3. The hypotheses: no row refuses running the run on either set of buffers, or carrying Q through it; and the two sets agree in the amplitudes of the
-  -- start field's qubits, which Q is on. What lies past them, the scratch and the output's old bytes are any.
-  pub frame : (E' : Ending) → running limit s m .answer ≡ accepted E → running limit s u .answer ≡ accepted E' → carrying limit s Q out .answer ≡ accepted end
-      → Agreeing (Q .n) (m .state) (u .state) → Frame limit s sent Q end m u E
-  frame E' here there carries agree =
-      let one = running-done limit s m E here in
-      let two = running-done limit s u E' there in
-      let three = carrying-done limit s Q out end carries in
+  accepted-half : Accepted limit s out Q m u → Frame limit s out Q m u
+  accepted-half a =
+      let one = running-done limit s m _ (accepted-value (running limit s m .answer) (a .here) .is) in
+      let two = running-done limit s u _ (accepted-value (running limit s u .answer) (a .there) .is) in
+      let three = carrying-done limit s Q out _ (accepted-value (carrying limit s Q out .answer) (a .carries) .is) in
       let R : Run = one .run in
       let again : two .run ≡ R = accepted-same (sym (two .was) ∙ one .was) in
       let third : three .run ≡ R = accepted-same (sym (three .was) ∙ one .was) in
-      let pauli = carrying-passed Q (R .width) (length s) (length out) (subst (λ (r : Run). carryingRow Q (r .width) (length s) (length out) ≡ 0) third (three .passed)) in
-      assembled R (one .was) (one .passed) (subst (λ (r : Run). memoryRow (surveyOf r) u ≡ 0) again (two .passed)) (pauli .0) (pauli .1) (one .value-is)
-      (three .value-is ∙ ap (λ (r : Run). endPauli Q (r .steps)) third)
-      (ap (take (length s)) (three .lent-is ∙ ap (λ (r : Run). carriedRun Q r s ++ drop (length s) out) third)
-      ∙ take-at (carriedRun Q R s) (drop (length s) out) (length s) (carried-length Q R s))
-      agree
+      let row = subst (λ (r : Run). carryingRow Q (r .width) (length s) (length out) ≡ 0) third (three .passed) in
+      let pauli = carrying-passed Q (R .width) (length s) (length out) row in
+      let carries = carrying-answers limit s Q out R (one .was) row in
+      assembled R (one .was) (one .passed) (subst (λ (r : Run). memoryRow (surveyOf r) u ≡ 0) again (two .passed)) (pauli .0) (pauli .1) (carries .0) (carries .1) (a .start)
+
+-- ---- the theorem
+
+-- THE FRAME THEOREM under any limit at which every state can be corrected
+pub frame : (limit : ℕ) → limit ≤ widestKernel → FrameTheorem limit
+frame limit narrow = record {
+  accepts = accepted-half limit narrow;
+  refused-run = running-kept limit;
+  refused-carrying = λ s out Q. carrying-kept limit s Q out;
+  refused-correction = fired-refused;
+}
+
+-- and at the service's, which is what the calls run_contiguous and carry_run promise
+pub frame-at-the-service : FrameTheorem widestRun
+frame-at-the-service = frame widestRun (leb→le widestRun widestKernel tt)

@@ -7,23 +7,29 @@ use native.Mathlib.Omega.{arith}
 use lib.Dec.{ltb}
 use lib.Ieee.{Float}
 use lib.ListN.{length}
-use borrow.Author.Tests.{ltb-false}
+use borrow.Author.Tests.{ltb-false, le-ltb}
 use Rattle.answers.specs.Answer.{Answer}
 use Rattle.answers.specs.Answer.Answer.{accepted, refusedAt}
 use Rattle.answers.specs.Row.{refusedAt-accepted}
 use Rattle.amplitudelaws.specs.Step.{Step}
 use Rattle.framelaws.specs.Allowed.{Allowed}
+use Rattle.runlaws.specs.Field.{mostBytes}
 use Rattle.runlaws.specs.Reading.{Cursor, Read, readField, readAt}
 use Rattle.runlaws.specs.Reading.Read.{stepRead, endRead, refusedRead}
 use Rattle.runlaws.specs.Run.{mapped, ended, follow, walk}
 use Rattle.runlaws.specs.Fields.{field-past, step-read, size-ge}
 use Rattle.runlaws.specs.Mapped.{mapped-accepted}
 
--- with fuel for what is left it goes by the read at its cursor
-pub walk-by : (limit fuel : ℕ) (s : List ℕ) (c : Cursor) → length s ≤ c .at + fuel → walk limit fuel s c ≡ follow s (readAt limit s c) (walk limit (fuel - 1) s)
+-- with fuel for what is left of a run that is not too long it goes by the read at its cursor
+pub walk-by : (limit fuel : ℕ) (s : List ℕ) (c : Cursor) → length s ≤ mostBytes → length s ≤ c .at + fuel
+    → walk limit fuel s c ≡ follow s (readAt limit s c) (walk limit (fuel - 1) s)
 unfolding walk follow readAt readField
-walk-by limit zero s c h = rw (field-past s (c .at) (omega arith))
-walk-by limit (suc fuel) s c h = let less : suc fuel - 1 ≡ fuel = omega arith in rw less
+walk-by limit zero s c short h = rw (le-ltb mostBytes (length s) short, field-past s (c .at) (omega arith)) (go (ltb limit (c .width)))
+  where
+    go : (q : Bool) → refusedAt 14 (c .at) ≡ follow s (cond q (refusedRead 14 (c .at)) (refusedRead 14 (c .at))) (walk limit (0 - 1) s)
+    go true = refl
+    go false = refl
+walk-by limit (suc fuel) s c short h = let less : suc fuel - 1 ≡ fuel = omega arith in rw less
 
 -- a run's end field stands last
 module _ (s : List ℕ) (c : Cursor) where
@@ -42,10 +48,10 @@ pub record First (limit fuel : ℕ) (s : List ℕ) (c : Cursor) (t : Step Float)
   pub enough : length s ≤ behind .at + (fuel - 1)
   pub walked : walk limit (fuel - 1) s behind ≡ accepted ts
 
-module _ (limit fuel : ℕ) (s : List ℕ) (c : Cursor) (enough : length s ≤ c .at + fuel) where
+module _ (limit fuel : ℕ) (s : List ℕ) (c : Cursor) (short : length s ≤ mostBytes) (enough : length s ≤ c .at + fuel) where
   pub first-step : (t : Step Float) (ts : List (Step Float)) → walk limit fuel s c ≡ accepted (t ∷ ts) → First limit fuel s c t ts
   unfolding follow
-  first-step t ts e = go (readAt limit s c) refl (sym (walk-by limit fuel s c enough) ∙ e)
+  first-step t ts e = go (readAt limit s c) refl (sym (walk-by limit fuel s c short enough) ∙ e)
     where
       go : (r : Read) → readAt limit s c ≡ r → follow s r (walk limit (fuel - 1) s) ≡ accepted (t ∷ ts) → First limit fuel s c t ts
       go (stepRead t' d) h e =
@@ -63,23 +69,24 @@ module _ (limit fuel : ℕ) (s : List ℕ) (c : Cursor) (enough : length s ≤ c
       go (refusedRead n at) h e = absurd (refusedAt-accepted e)
 
 -- the steps of an accepted walk are allowed
-pub walk-allowed : (limit fuel : ℕ) (s : List ℕ) (c : Cursor) (ts : List (Step Float)) → length s ≤ c .at + fuel → walk limit fuel s c ≡ accepted ts
-    → Allowed limit (c .width) ts
-walk-allowed limit fuel s c [] h e = tt
-walk-allowed limit fuel s c (t ∷ ts) h e =
-    let k = first-step limit fuel s c h t ts e in
+pub walk-allowed : (limit fuel : ℕ) (s : List ℕ) (c : Cursor) (ts : List (Step Float)) → length s ≤ mostBytes → length s ≤ c .at + fuel
+    → walk limit fuel s c ≡ accepted ts → Allowed limit (c .width) ts
+walk-allowed limit fuel s c [] short h e = tt
+walk-allowed limit fuel s c (t ∷ ts) short h e =
+    let k = first-step limit fuel s c short h t ts e in
     let r = step-read limit s c (k .behind) t (k .read) in
-    (r .placed, r .row, rw (r .width) at (walk-allowed limit (fuel - 1) s (k .behind) ts (k .enough) (k .walked)))
+    (r .placed, r .row, rw (r .width) at (walk-allowed limit (fuel - 1) s (k .behind) ts short (k .enough) (k .walked)))
 
 -- What a loop over a run keeps: the walk from its cursor, with fuel for what is left, gives `rest`.
 pub record Left (limit : ℕ) (s : List ℕ) (c : Cursor) (rest : Answer (List (Step Float))) : Type 0 where
   pub fuel : ℕ
+  pub short : length s ≤ mostBytes
   pub enough : length s ≤ c .at + fuel
   pub same : walk limit fuel s c ≡ rest
   pub inside : c .at ≤ length s
 
-pub left-outset : (limit : ℕ) (s : List ℕ) (c : Cursor) → c .at ≤ length s → Left limit s c (walk limit (length s) s c)
-left-outset limit s c h = record { fuel = length s; enough = omega arith; same = refl; inside = h }
+pub left-outset : (limit : ℕ) (s : List ℕ) (c : Cursor) → length s ≤ mostBytes → c .at ≤ length s → Left limit s c (walk limit (length s) s c)
+left-outset limit s c short h = record { fuel = length s; short = short; enough = omega arith; same = refl; inside = h }
 
 -- behind a step
 pub record Next (limit : ℕ) (s : List ℕ) (d : Cursor) (t : Step Float) (rest : Answer (List (Step Float))) : Type 0 where
@@ -96,7 +103,7 @@ pub record AcceptedNext (limit : ℕ) (s : List ℕ) (d : Cursor) (t : Step Floa
 module _ {limit : ℕ} {s : List ℕ} {c : Cursor} where
   module _ {rest : Answer (List (Step Float))} (l : Left limit s c rest) where
     by-read : (r : Read) → readAt limit s c ≡ r → rest ≡ follow s r (walk limit (l .fuel - 1) s)
-    by-read r e = sym (l .same) ∙ walk-by limit (l .fuel) s c (l .enough) ∙ rw e
+    by-read r e = sym (l .same) ∙ walk-by limit (l .fuel) s c (l .short) (l .enough) ∙ rw e
 
     pub left-step : (t : Step Float) (d : Cursor) → readAt limit s c ≡ stepRead t d → Next limit s d t rest
     unfolding follow
@@ -107,6 +114,7 @@ module _ {limit : ℕ} {s : List ℕ} {c : Cursor} where
           rest-is = by-read (stepRead t d) e;
           left = record {
             fuel = l .fuel - 1;
+            short = l .short;
             enough = omega (arith, r .next, size-ge t, l .enough, l .inside);
             same = refl;
             inside = r .inside;

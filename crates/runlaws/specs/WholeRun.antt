@@ -15,9 +15,9 @@ use Rattle.paulilaws.specs.Fitting.{both-left, both-right}
 use Rattle.amplitudelaws.specs.Step.{Step}
 use Rattle.framelaws.specs.Allowed.{Allowed}
 use Rattle.runlaws.specs.Bytes.{byteAt}
-use Rattle.runlaws.specs.Field.{Field, bodyLength, fieldAt}
+use Rattle.runlaws.specs.Field.{Field, mostBytes, bodyLength, fieldAt}
 use Rattle.runlaws.specs.Reading.{Cursor, isField}
-use Rattle.runlaws.specs.Run.{Run, mostBytes, mapped, walk, startWidth, begun, runOf}
+use Rattle.runlaws.specs.Run.{Run, mapped, walk, startWidth, begun, runOf}
 use Rattle.runlaws.specs.Fields.{by-test, field-whole, has-size}
 use Rattle.runlaws.specs.Mapped.{mapped-accepted}
 use Rattle.runlaws.specs.Walk.{walk-allowed}
@@ -90,7 +90,7 @@ module _ (limit : ℕ) (s : List ℕ) (R : Run) where
         begins = b .begins;
         width = b .within;
         walked = m .was;
-        allowed = walk-allowed limit (length s) s from (m .value) (omega arith) (m .was);
+        allowed = walk-allowed limit (length s) s from (m .value) short (omega arith) (m .was);
       })
 
   pub run-allowed : runOf limit s ≡ accepted R → ReadRun limit s R

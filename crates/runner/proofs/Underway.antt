@@ -1,14 +1,15 @@
 -- What the loop over a run's steps keeps: the steps that are left do to the memory as it is what the whole run does to the memory as it was. Assumes nothing.
 use mathlib.Core.Path.{_≡_, sym, ap, ap₂, _∙_, subst}
 use mathlib.Core.List.{List, [], _∷_}
-use mathlib.Core.Option.{none, some, Option·some-injective, Option·none-ne-some}
+use mathlib.Core.Option.{some, Option·some-injective}
 use Prim.Native.Nat.{ℕ, _<_, _-_}
 use native.Mathlib.Omega.{arith}
 use lib.Ieee.{Float}
 use lib.ListN.{length}
 use types.Run.{OneOf}
 use denote.Enum.Declared.{tagOf}
-use Rattle.answers.specs.Answer.Answer.{accepted}
+use Rattle.answers.specs.Answer.Answer.{accepted, refusedAt}
+use Rattle.answers.specs.Row.{refusedAt-accepted}
 use Rattle.amplitudelaws.specs.Step.{Step}
 use Rattle.framelaws.specs.Survey.{survey}
 use Rattle.framelaws.specs.Memory.{Memory, stepped, ran}
@@ -16,7 +17,7 @@ use Rattle.framelaws.specs.Kept.{SameSizes, ran-sizes}
 use Rattle.runlaws.specs.Field.{fieldAt}
 use Rattle.runlaws.specs.Reading.{Cursor, readAt}
 use Rattle.runlaws.specs.Reading.Read.{stepRead}
-use Rattle.runlaws.specs.Run.{startWidth}
+use Rattle.runlaws.specs.Run.{startWidth, runOf}
 use Rattle.runlaws.specs.Calls.{surveyOf, running}
 use Rattle.runlaws.specs.Outcomes.{running-answers}
 use Rattle.runlaws.specs.Walk.{Left, left-outset, accepted-step}
@@ -47,8 +48,8 @@ module _ {limit : ℕ} {s : List ℕ} {m₀ : Memory} where
     starts : startWidth limit (fieldAt s 0) ≡ some (r .run .width)
     starts = run-allowed limit s (r .run) (r .is) .start
 
-    pub no-start : startWidth limit (fieldAt s 0) ≡ none → ⊥
-    no-start e = Option·none-ne-some _ (sym e ∙ starts)
+    pub no-start : runOf limit s ≡ refusedAt 14 0 → ⊥
+    no-start e = refusedAt-accepted (sym e ∙ r .is)
 
     pub underway-outset : (n : ℕ) → startWidth limit (fieldAt s 0) ≡ some n → Underway limit s m₀ (record { at = 4; width = n }) m₀
     unfolding surveyOf
@@ -57,7 +58,7 @@ module _ {limit : ℕ} {s : List ℕ} {m₀ : Memory} where
         let width : n ≡ r .run .width = Option·some-injective _ _ (sym e ∙ starts) in
         rw width (record {
           steps = r .run .steps;
-          left = rw (← read .walked) (left-outset limit s (record { at = 4; width = r .run .width }) (read .begins));
+          left = rw (← read .walked) (left-outset limit s (record { at = 4; width = r .run .width }) (read .short) (read .begins));
           same = sym lent-ran;
           rooms = rooms-passed (surveyOf (r .run)) m₀ (r .row);
         })

@@ -3,6 +3,7 @@
 ghost use mathlib.Core.Path.{_≡_};
 ghost use mathlib.Core.Bool.{false};
 ghost use Rattle.answers.specs.Answer.{Answer};
+ghost use Rattle.verdicts.specs.Flag.{flagRow};
 ghost use Rattle.verdicts.specs.Verdict.{Seen};
 
 // By `kind`: 0 the call is accepted, 1 it is refused by `number`, 2 it is refused by `number` at `place`.
@@ -42,6 +43,14 @@ pub fn refused_at(number: u8, place: usize) -> Verdict
         number,
         place,
     }
+}
+
+// The row of a number that is to be a bit: 14 where it is over 1, else 0. Another language may hand over
+// any byte for a bit, so the exported calls take a number and look at it.
+pub fn flag_row(flag: u8) -> u8
+    ensures { λ r. ⌜ r ≡ flagRow flag ⌝ }
+{
+    if 1 < flag { 14 } else { 0 }
 }
 
 // A bit: false beside a refusal.

@@ -16,7 +16,7 @@ const CASES: u64 = 3_000_000;
 const SEED: u64 = 1;
 
 /// The rows that each call has, 0 where none refuses it.
-const WANTED: [(&str, &[u8]); 38] = [
+const WANTED: [(&str, &[u8]); 41] = [
     ("read", &[0, 3, 6, 7, 8, 9, 10, 11, 12, 14, 15]),
     ("check_run", &[0, 3, 7, 8, 9, 10, 11, 12, 14, 15]),
     ("check_within", &[0, 3, 6, 7, 8, 9, 10, 11, 12, 14, 15]),
@@ -26,12 +26,14 @@ const WANTED: [(&str, &[u8]); 38] = [
     ("serve, caller's", &[13]),
     ("carry", &[0, 3, 7, 8, 9, 10, 11, 12, 14, 15]),
     ("carry, caller's", &[3, 4, 16]),
+    ("listing", &[0, 16]),
     ("insert_zero_bit", &[0, 5]),
+    ("set_packed_bit", &[0, 14]),
     ("pauli_identity", &[0, 3]),
     ("x_bit", &[0, 3, 5]),
     ("z_bit", &[0, 3, 5]),
     ("get", &[0, 3, 5]),
-    ("set", &[0, 3, 5]),
+    ("set", &[0, 3, 5, 14]),
     ("coefficient_phase", &[0, 3]),
     ("pauli_squares_to_identity", &[0, 3]),
     ("max_support", &[0, 3]),
@@ -44,16 +46,17 @@ const WANTED: [(&str, &[u8]); 38] = [
     ("active z_bit", &[0, 3, 5]),
     ("dropped", &[0, 3, 5]),
     ("raised", &[0, 3]),
+    ("active is_hermitian", &[0, 3]),
     ("active mul", &[0, 3, 4]),
     ("active anticommutes", &[0, 3, 4]),
     ("action", &[0, 3, 6, 7]),
     ("rotation kernel", &[0, 3, 6, 7, 8]),
     ("with_pivot", &[0, 3, 6, 7, 9, 10, 11, 12]),
     ("from_pauli", &[0, 3, 6, 7, 9, 11]),
-    ("rotate", &[0, 3, 6, 7, 8, 13]),
+    ("rotate", &[0, 3, 6, 7, 8, 13, 14]),
     ("promote", &[0, 3, 6, 8, 13]),
-    ("project", &[0, 3, 6, 7, 8, 9, 10, 11, 12, 13]),
-    ("probability", &[0, 3, 6, 7, 9, 10, 11, 12, 13]),
+    ("project", &[0, 3, 6, 7, 8, 9, 10, 11, 12, 13, 14]),
+    ("probability", &[0, 3, 6, 7, 9, 10, 11, 12, 13, 14]),
     ("correct", &[0, 3, 6, 13]),
 ];
 

@@ -22,14 +22,15 @@ use Rattle.amplitudelaws.specs.Book.Complex.{exact, complex, real, conj,
 use Rattle.amplitudelaws.specs.Book.Reals.{conj-mul, real-add, real-mul, real-one}
 use Rattle.amplitudelaws.specs.Book.Parts.{scaled-is}
 use Rattle.amplitudelaws.specs.Book.Sum.{sum, sum-same, sum-mul}
-use Rattle.amplitudelaws.specs.Book.Matrix.{Matrix, identity, applied, joined, adjoint, applied-same, applied-multiple, applied-joined}
-use Rattle.amplitudelaws.specs.Book.Operators.{projector, standing, stretch, eigenvectors, measuring}
+use Rattle.amplitudelaws.specs.Book.Matrix.{Matrix, identity, ket, applied, joined, adjoint, applied-same, applied-multiple, applied-joined}
+use Rattle.amplitudelaws.specs.Book.Operators.{projector, stretch, eigenvectors, measuring}
+use Rattle.amplitudelaws.specs.Book.Standing.{basisRead, standing-read}
 use Rattle.amplitudelaws.specs.Book.Action.{act}
 use Rattle.amplitudelaws.specs.Book.Part.{part, part-again, half-complex}
 use Rattle.amplitudelaws.specs.Book.Diagonal.{part-outside}
 use Rattle.amplitudelaws.specs.Book.Paired.{paired}
 use Rattle.amplitudelaws.specs.Book.Remaining.{source-inside, remaining-part}
-use Rattle.amplitudelaws.specs.Book.Projector.{ket, conj-real, projector-part, projector-ket, projector-conj, projector-square}
+use Rattle.amplitudelaws.specs.Book.Projector.{conj-real, projector-part, projector-ket, projector-conj, projector-square}
 use Rattle.amplitudelaws.specs.Book.Halves.{halves}
 
 module _ {R : Type 0} (𝓡 : Ring R) where
@@ -53,20 +54,20 @@ module _ {R : Type 0} (𝓡 : Ring R) where
 -- ---- the basis states that stand for coordinates
 
 module _ (M : Pauli) (p v : ℕ) where
-  standing-drop : (d : Bool) (j : ℕ) → dropBit p (standing d M p v j) ≡ j
-  unfolding standing
-  standing-drop true j = source-drop p (M .z) (minus (M .k) + v) j
-  standing-drop false j = drop-open p j
+  read-drop : (d : Bool) (j : ℕ) → dropBit p (basisRead d M p v j) ≡ j
+  unfolding basisRead
+  read-drop true j = source-drop p (M .z) (minus (M .k) + v) j
+  read-drop false j = drop-open p j
 
-  standing-under : (n : ℕ) → p ≤ n → (d : Bool) (j : ℕ) → j < 2 ^ n → standing d M p v j < 2 ^ suc n
-  unfolding standing
-  standing-under n fits true j l = source-lt p (M .z) (minus (M .k) + v) j n fits l
-  standing-under n fits false j l = open-lt p n fits j l
+  read-under : (n : ℕ) → p ≤ n → (d : Bool) (j : ℕ) → j < 2 ^ n → basisRead d M p v j < 2 ^ suc n
+  unfolding basisRead
+  read-under n fits true j l = source-lt p (M .z) (minus (M .k) + v) j n fits l
+  read-under n fits false j l = open-lt p n fits j l
 
-  standing-lt : p < M .n → (d : Bool) (j : ℕ) → j < 2 ^ (M .n - 1) → standing d M p v j < 2 ^ M .n
-  standing-lt inside d j l =
+  read-lt : p < M .n → (d : Bool) (j : ℕ) → j < 2 ^ (M .n - 1) → basisRead d M p v j < 2 ^ M .n
+  read-lt inside d j l =
       let width : suc (M .n - 1) ≡ M .n = omega arith in
-      subst (λ (n : ℕ). standing d M p v j < 2 ^ n) width (standing-under (M .n - 1) (omega arith) d j l)
+      subst (λ (n : ℕ). basisRead d M p v j < 2 ^ n) width (read-under (M .n - 1) (omega arith) d j l)
 
 module _ {R : Type 0} (𝓡 : Ring R) (h : R) (half : 𝓡 .add (𝓡 .mul h h) (𝓡 .mul h h) ≡ 𝓡 .one) (M : Pauli) (p v : ℕ) (ok : Measurable M p) where
   open Ring (complex 𝓡) using (add as _+ᶜ_, mul as _*ᶜ_, zero as nought, one)
@@ -80,7 +81,7 @@ module _ {R : Type 0} (𝓡 : Ring R) (h : R) (half : 𝓡 .add (𝓡 .mul h h) 
   coordinates = 2 ^ (M .n - 1)
 
   abbrev s : ℕ → ℕ
-  s j = standing (eqb (M .x) 0) M p v j
+  s j = basisRead (eqb (M .x) 0) M p v j
 
   abbrev t : Amplitude R
   t = real 𝓡 (stretch 𝓡 h (eqb (M .x) 0))
@@ -92,13 +93,19 @@ module _ {R : Type 0} (𝓡 : Ring R) (h : R) (half : 𝓡 .add (𝓡 .mul h h) 
   E = eigenvectors 𝓡 h M p v
 
   s-lt : (j : ℕ) → j < coordinates → s j < size
-  s-lt j l = standing-lt M p v (ok .inside) (eqb (M .x) 0) j l
+  s-lt j l = read-lt M p v (ok .inside) (eqb (M .x) 0) j l
+
+  -- column j is the projector's column at j's basis state, stretched
+  column : (a j : ℕ) → E a j ≡ t *ᶜ P a (s j)
+  unfolding eigenvectors
+  column a j = ap (λ (b : ℕ). t *ᶜ P a b) (standing-read M p v (ok .fitting) (ok .real) j)
 
   -- row j of the adjoint is the projector's row at j's basis state
   row : (j a : ℕ) → j < coordinates → a < size → adjoint 𝓡 E j a ≡ t *ᶜ P (s j) a
-  unfolding adjoint eigenvectors
+  unfolding adjoint
   row j a lj la =
-      conj-mul 𝓡 t (P a (s j))
+      ap (conj 𝓡) (column a j)
+      ∙ conj-mul 𝓡 t (P a (s j))
       ∙ ap₂ _*ᶜ_ (conj-real 𝓡 (stretch 𝓡 h (eqb (M .x) 0))) (projector-conj 𝓡 h M v (ok .fitting) (ok .real) (s j) a (s-lt j lj) la)
 
   -- coordinate j of a vector's part
@@ -145,13 +152,13 @@ module _ {R : Type 0} (𝓡 : Ring R) (h : R) (half : 𝓡 .add (𝓡 .mul h h) 
 
   -- so the projections of two basis states that stand for coordinates meet as the states themselves do, the stretch undoing the projection's h h
   met : (d : Bool) → eqb (M .x) 0 ≡ d → digit p (cond d (M .z) (M .x)) ≡ 1 → (a b : ℕ)
-      → real 𝓡 (stretch 𝓡 h d) *ᶜ real 𝓡 (stretch 𝓡 h d) *ᶜ part 𝓡 h M v (ket 𝓡 (standing d M p v b)) (standing d M p v a)
-      ≡ ket 𝓡 (standing d M p v b) (standing d M p v a)
-  unfolding stretch standing
+      → real 𝓡 (stretch 𝓡 h d) *ᶜ real 𝓡 (stretch 𝓡 h d) *ᶜ part 𝓡 h M v (ket 𝓡 (basisRead d M p v b)) (basisRead d M p v a)
+      ≡ ket 𝓡 (basisRead d M p v b) (basisRead d M p v a)
+  unfolding stretch basisRead
   met true x set a b =
-      ap (λ (q : Amplitude R). q *ᶜ q *ᶜ part 𝓡 h M v (ket 𝓡 (standing true M p v b)) (standing true M p v a)) (real-one 𝓡)
+      ap (λ (q : Amplitude R). q *ᶜ q *ᶜ part 𝓡 h M v (ket 𝓡 (basisRead true M p v b)) (basisRead true M p v a)) (real-one 𝓡)
       ∙ ones (complex 𝓡) _
-      ∙ source-inside 𝓡 h half M p v ok (ket 𝓡 (standing true M p v b)) a (eqb-true (M .x) 0 x) set
+      ∙ source-inside 𝓡 h half M p v ok (ket 𝓡 (basisRead true M p v b)) a (eqb-true (M .x) 0 x) set
   met false x set a b =
       ap₂ (λ (q r : Amplitude R). q *ᶜ q *ᶜ r) (real-add 𝓡 h h) parted ∙ whole (complex 𝓡) (real 𝓡 h) q (half-complex 𝓡 h half)
     where
@@ -173,14 +180,14 @@ module _ {R : Type 0} (𝓡 : Ring R) (h : R) (half : 𝓡 .add (𝓡 .mul h h) 
       go false e = ne-eqb (s a) (s b) (λ m. eqb-false a b e (sym (back a) ∙ ap (dropBit p) m ∙ back b))
         where
           back : (j : ℕ) → dropBit p (s j) ≡ j
-          back = standing-drop M p v (eqb (M .x) 0)
+          back = read-drop M p v (eqb (M .x) 0)
 
   pub orthonormal : (a b : ℕ) → a < 2 ^ (M .n - 1) → b < 2 ^ (M .n - 1)
       → joined 𝓡 (2 ^ M .n) (adjoint 𝓡 (eigenvectors 𝓡 h M p v)) (eigenvectors 𝓡 h M p v) a b ≡ identity 𝓡 a b
   unfolding joined
   orthonormal a b la lb =
       sum-same (complex 𝓡) size (λ c. adjoint 𝓡 E a c *ᶜ E c b) (λ c. t *ᶜ P (s a) c *ᶜ (t *ᶜ P c (s b)))
-      (λ c l. ap₂ _*ᶜ_ (row a c la l) (unfold eigenvectors in refl))
+      (λ c l. ap₂ _*ᶜ_ (row a c la l) (column c b))
       ∙ apart size (λ c. P (s a) c) (λ c. P c (s b))
       ∙ ap (λ (q : Amplitude R). t *ᶜ t *ᶜ q)
       (unfold joined in (projector-square 𝓡 h M v (ok .fitting) (ok .real) (s a) (s b) (s-lt a la) (s-lt b lb) half)
@@ -206,7 +213,7 @@ module _ {R : Type 0} (𝓡 : Ring R) (h : R) (half : 𝓡 .add (𝓡 .mul h h) 
   unfolding joined
   complete a b la lb =
       sum-same (complex 𝓡) coordinates (λ j. E a j *ᶜ adjoint 𝓡 E j b) (λ j. t *ᶜ P a (s j) *ᶜ (t *ᶜ P (s j) b))
-      (λ j l. ap₂ _*ᶜ_ (unfold eigenvectors in refl) (row j b l lb))
+      (λ j l. ap₂ _*ᶜ_ (column a j) (row j b l lb))
       ∙ apart coordinates (λ j. P a (s j)) (λ j. P (s j) b)
       ∙ inward (λ c. P a c *ᶜ P c b) none same
       ∙ unfold joined in (projector-square 𝓡 h M v (ok .fitting) (ok .real) a b la lb half)

@@ -21,7 +21,8 @@ use Rattle.amplitudelaws.specs.Acting.{Measurable}
 use Rattle.amplitudelaws.specs.Book.Ring.{Ring, ring, add-zero}
 use Rattle.amplitudelaws.specs.Book.Signs.{parity}
 use Rattle.amplitudelaws.specs.Book.Sum.{sum, sum-none, sum-one, sum-same, sum-add, sum-swap}
-use Rattle.amplitudelaws.specs.Book.Operators.{standing, stretch}
+use Rattle.amplitudelaws.specs.Book.Operators.{stretch}
+use Rattle.amplitudelaws.specs.Book.Standing.{basisRead}
 
 made : (e o : ℕ) → o < 2 → (e + o) % 2 ≡ 0 → o ≡ e % 2
 made e o l q = omega arith
@@ -120,8 +121,8 @@ module _ {R : Type 0} (𝓡 : Ring R) where
     pub halves : (v : ℕ) (f : ℕ → R)
         → (eqb (M .x) 0 ≡ true → (b : ℕ) → b < 2 ^ M .n → (minus (M .k) + v + overlap b (M .z)) % 2 ≡ 1 → f b ≡ nought)
         → (eqb (M .x) 0 ≡ false → (b : ℕ) → b < 2 ^ M .n → f (bitXor b (M .x)) ≡ f b)
-        → let d = eqb (M .x) 0 in sum 𝓡 (2 ^ M .n) f ≡ mul (mul (stretch 𝓡 h d) (stretch 𝓡 h d)) (sum 𝓡 (2 ^ (M .n - 1)) (λ j. f (standing d M p v j)))
-    unfolding pivotMask standing stretch
+        → let d = eqb (M .x) 0 in sum 𝓡 (2 ^ M .n) f ≡ mul (mul (stretch 𝓡 h d) (stretch 𝓡 h d)) (sum 𝓡 (2 ^ (M .n - 1)) (λ j. f (basisRead d M p v j)))
+    unfolding pivotMask basisRead stretch
     halves v f none same = go (eqb (M .x) 0) refl (proper .has)
       where
         m : ℕ
@@ -137,7 +138,7 @@ module _ {R : Type 0} (𝓡 : Ring R) where
         under b = subst (λ (n : ℕ). b < 2 ^ n) (sym width)
 
         go : (d : Bool) → eqb (M .x) 0 ≡ d → digit p (cond d (M .z) (M .x)) ≡ 1
-            → sum 𝓡 (2 ^ M .n) f ≡ mul (mul (stretch 𝓡 h d) (stretch 𝓡 h d)) (sum 𝓡 (2 ^ m) (λ j. f (standing d M p v j)))
+            → sum 𝓡 (2 ^ M .n) f ≡ mul (mul (stretch 𝓡 h d) (stretch 𝓡 h d)) (sum 𝓡 (2 ^ m) (λ j. f (basisRead d M p v j)))
         go true e set =
             ap (λ (n : ℕ). sum 𝓡 (2 ^ n) f) width
             ∙ sum-source m p (M .z) (minus (M .k) + v) f fits set (λ b l. none e b (under b l))

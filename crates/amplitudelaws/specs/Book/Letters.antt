@@ -18,7 +18,7 @@ use Rattle.amplitudelaws.specs.Book.Matrix.{identity, joined, tensor}
 use Rattle.amplitudelaws.specs.Book.Operators.{bitFlip, phaseFlip, once, letter, letters}
 
 -- a digit is 0 or 1
-as-bit : (d : ℕ) → d < 2 → d ≡ bitOf (eqb d 1)
+pub as-bit : (d : ℕ) → d < 2 → d ≡ bitOf (eqb d 1)
 as-bit zero l = refl
 as-bit (suc zero) l = refl
 as-bit (suc (suc d)) l = absurd (omega arith)

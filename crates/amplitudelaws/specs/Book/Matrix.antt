@@ -5,7 +5,7 @@ use Prim.Native.Nat.{ℕ, _/_, _%_, _<_}
 use lib.Dec.{eqb}
 use borrow.Author.Tests.{eq-eqb, ne-eqb}
 use Rattle.amplitudelaws.specs.Arithmetic.{Amplitude}
-use Rattle.amplitudelaws.specs.Book.Ring.{Ring, right-distrib, zero-mul, one-mul}
+use Rattle.amplitudelaws.specs.Book.Ring.{Ring, right-distrib, zero-mul, mul-zero, one-mul, mul-one}
 use Rattle.amplitudelaws.specs.Book.Complex.{complex, conj}
 use Rattle.amplitudelaws.specs.Book.Sum.{sum, sum-one, sum-same, sum-mul, sum-add, sum-swap}
 
@@ -19,6 +19,10 @@ module _ {R : Type 0} (𝓡 : Ring R) where
   infixl 70 _*ᶜ_
   unfoldable pub identity : Matrix R
   identity a b = cond (eqb a b) one nought
+
+  -- |b>, a column of it
+  abbrev pub ket : ℕ → ℕ → Amplitude R
+  ket b a = identity a b
 
   unfoldable pub plus : Matrix R → Matrix R → Matrix R
   plus M N a b = M a b +ᶜ N a b
@@ -66,6 +70,14 @@ module _ {R : Type 0} (𝓡 : Ring R) where
       sum-one (complex 𝓡) size a (λ b. cond (eqb a b) one nought *ᶜ F b) l
       (λ b m ne. ap (λ (t : Bool). cond t one nought *ᶜ F b) (ne-eqb a b (λ e. ne (sym e))) ∙ zero-mul (complex 𝓡) (F b))
       ∙ ap (λ (t : Bool). cond t one nought *ᶜ F a) (eq-eqb a a refl) ∙ one-mul (complex 𝓡) (F a)
+
+  -- a matrix takes |b> to its column b
+  pub applied-ket : (size : ℕ) (M : Matrix R) (a b : ℕ) → b < size → applied size M (ket b) a ≡ M a b
+  unfolding applied identity
+  applied-ket size M a b l =
+      sum-one (complex 𝓡) size b (λ c. M a c *ᶜ cond (eqb c b) one nought) l
+      (λ c m ne. ap (λ (t : Bool). M a c *ᶜ cond t one nought) (ne-eqb c b ne) ∙ mul-zero (complex 𝓡) (M a c))
+      ∙ ap (λ (t : Bool). M a b *ᶜ cond t one nought) (eq-eqb b b refl) ∙ mul-one (complex 𝓡) (M a b)
 
   -- a product's column is the left matrix applied to the right one's column
   pub joined-column : (size : ℕ) (M N : Matrix R) (a b : ℕ) → joined size M N a b ≡ applied size M (λ c. N c b) a

@@ -1,23 +1,30 @@
 -- The operators of Nielsen and Chuang that the steps stand for, as matrices. Qubit q is digit q of a row or a column. Assumes nothing.
 use mathlib.Core.Bool.{Bool, true, false}
 use mathlib.Core.List.{List, [], _∷_}
-use Prim.Native.Nat.{ℕ, zero, suc, _+_, _/_, _%_, _^_}
+use Prim.Native.Nat.{ℕ, zero, suc, _+_, _*_, _/_, _%_, _^_}
 use lib.Dec.{eqb}
-use Rattle.bitlaws.specs.Opening.{openBit}
-use Rattle.bitlaws.specs.Source.{source}
+use Rattle.bitlaws.specs.Parity.{overlap}
 use Rattle.paulilaws.specs.Pauli.{Pauli}
-use Rattle.amplitudelaws.specs.Projection.{minus}
+use Rattle.paulilaws.specs.Letter.{Letter}
+use Rattle.paulilaws.specs.Letter.Letter.{I, X, Y, Z}
+use Rattle.paulilaws.specs.Action.{Ket}
+use Rattle.amplitudelaws.specs.Arithmetic.{Amplitude}
 use Rattle.amplitudelaws.specs.Step.{Step, widthAfter}
 use Rattle.amplitudelaws.specs.Step.Step.{rotation, promotion, projection, correction}
 use Rattle.amplitudelaws.specs.Book.Ring.{Ring}
-use Rattle.amplitudelaws.specs.Book.Complex.{complex, real, i, ipow, sgn}
-use Rattle.amplitudelaws.specs.Book.Matrix.{Matrix, identity, plus, multiple, joined, adjoint, tensor}
+use Rattle.amplitudelaws.specs.Book.Complex.{complex, real, i, conj, ipow, sgn}
+use Rattle.amplitudelaws.specs.Book.Sum.{sum}
+use Rattle.amplitudelaws.specs.Book.Matrix.{Matrix, identity, ket, plus, multiple, joined, adjoint, tensor}
 
--- The basis state that stands for coordinate j of branch v of M, pivot p: of the two whose qubits without the pivot are j, the one in the branch where M is
--- diagonal, else the one whose pivot is 0. The first argument says whether M is diagonal.
+-- the basis state whose qubit p is d and whose others, in their order, are those of j
+unfoldable pub withQubit : ℕ → ℕ → ℕ → ℕ
+withQubit p d j = (j / 2 ^ p * 2 + d) * 2 ^ p + j % 2 ^ p
+
+-- The basis state that stands for coordinate j of branch v of M, pivot p, of the two whose qubits without the pivot are j. The first argument says whether
+-- M is diagonal: then M |b> = i^k (-1)^(b.z) |b>, i^k being (-1)^(k / 2), and it is the one that M takes times (-1)^v; else the one whose pivot is 0.
 unfoldable pub standing : Bool → Pauli → ℕ → ℕ → ℕ → ℕ
-standing true M p v j = source p (M .z) (minus (M .k) + v) j
-standing false M p v j = openBit p j
+standing true M p v j = withQubit p ((M .k / 2 + overlap (withQubit p 0 j) (M .z) + v) % 2) j
+standing false M p v j = withQubit p 0 j
 
 module _ {R : Type 0} (𝓡 : Ring R) where
   open Ring (complex 𝓡) using (mul as _*ᶜ_, neg as -ᶜ_, zero as nought, one)
@@ -26,18 +33,35 @@ module _ {R : Type 0} (𝓡 : Ring R) where
   infix 80 -ᶜ_
   -- ---- Paulis
 
-  -- X and Z on one qubit
+  -- X, Y and Z on one qubit
   unfoldable pub bitFlip : Matrix R
   bitFlip zero zero = nought
   bitFlip zero (suc b) = one
   bitFlip (suc a) zero = one
   bitFlip (suc a) (suc b) = nought
 
+  unfoldable pub bothFlip : Matrix R
+  bothFlip zero zero = nought
+  bothFlip zero (suc b) = -ᶜ i 𝓡
+  bothFlip (suc a) zero = i 𝓡
+  bothFlip (suc a) (suc b) = nought
+
   unfoldable pub phaseFlip : Matrix R
   phaseFlip zero zero = one
   phaseFlip zero (suc b) = nought
   phaseFlip (suc a) zero = nought
   phaseFlip (suc a) (suc b) = -ᶜ one
+
+  unfoldable pub letterMatrix : Letter → Matrix R
+  letterMatrix I = identity 𝓡
+  letterMatrix X = bitFlip
+  letterMatrix Y = bothFlip
+  letterMatrix Z = phaseFlip
+
+  -- the tensor product of n letters, l 0 being qubit 0's
+  unfoldable pub spelled : ℕ → (ℕ → Letter) → Matrix R
+  spelled zero l = identity 𝓡
+  spelled (suc n) l = tensor 𝓡 2 (spelled n (λ q. l (suc q))) (letterMatrix (l 0))
 
   -- M to the power of 0 or 1
   unfoldable pub once : Matrix R → ℕ → Matrix R
@@ -56,6 +80,16 @@ module _ {R : Type 0} (𝓡 : Ring R) where
   -- i^k X^x Z^z
   unfoldable pub pauli : Pauli → Matrix R
   pauli P = multiple 𝓡 (ipow 𝓡 (P .k)) (letters (P .n) (P .x) (P .z))
+
+  -- ---- vectors
+
+  -- i^phase |basis>
+  unfoldable pub turnedKet : Ket → ℕ → Amplitude R
+  turnedKet s a = ipow 𝓡 (s .phase) *ᶜ ket 𝓡 (s .basis) a
+
+  -- <F|F>, the squared length of a vector of `size` entries
+  unfoldable pub squaredLength : ℕ → (ℕ → Amplitude R) → Amplitude R
+  squaredLength size F = sum (complex 𝓡) size (λ a. conj 𝓡 (F a) *ᶜ F a)
 
   -- ---- rotations
 

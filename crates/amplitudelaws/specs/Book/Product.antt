@@ -1,4 +1,4 @@
--- The product of two Paulis acts as the second and then the first, also as matrices. Assumes nothing.
+-- The product of two Paulis acts as the second and then the first, and its matrix is the product of theirs. Assumes nothing.
 use mathlib.Core.Path.{_≡_, sym, ap, _∙_}
 use Prim.Native.Nat.{ℕ, _+_, _*_, _%_, _^_, _<_}
 use native.Mathlib.Omega.{arith}
@@ -11,7 +11,7 @@ use Rattle.amplitudelaws.specs.Arithmetic.{Amplitude}
 use Rattle.amplitudelaws.specs.Book.Ring.{Ring, ring}
 use Rattle.amplitudelaws.specs.Book.Complex.{complex, i, ipow, sgn}
 use Rattle.amplitudelaws.specs.Book.Signs.{sign-add, sign-same, pow-add, pow-double, pow-mod}
-use Rattle.amplitudelaws.specs.Book.Matrix.{applied, applied-same}
+use Rattle.amplitudelaws.specs.Book.Matrix.{ket, applied, joined, applied-same, applied-ket, joined-column}
 use Rattle.amplitudelaws.specs.Book.Operators.{pauli}
 use Rattle.amplitudelaws.specs.Book.Action.{act, pauli-acts}
 
@@ -59,12 +59,22 @@ module _ {R : Type 0} (𝓡 : Ring R) (A B : Pauli) where
       ∙ ap (λ (q : Amplitude R). ipow 𝓡 (A .k) *ᶜ ipow 𝓡 (B .k) *ᶜ q *ᶜ F u) (signs o)
       ∙ sym (regroup (complex 𝓡) (ipow 𝓡 (A .k)) (ipow 𝓡 (B .k)) (sgn 𝓡 (overlap o (A .z))) (sgn 𝓡 (overlap u (B .z))) (F u))
 
-  pub product-is-book : A .n ≡ B .n → Fitting A → Fitting B → (F : ℕ → Amplitude R) (a : ℕ) → a < 2 ^ A .n
-      → applied 𝓡 (2 ^ A .n) (pauli 𝓡 (product A B)) F a ≡ applied 𝓡 (2 ^ A .n) (pauli 𝓡 A) (applied 𝓡 (2 ^ A .n) (pauli 𝓡 B) F) a
-  unfolding product
-  product-is-book e f g F a ha =
-      pauli-acts 𝓡 (product A B) (product-fitting (sym e) f g) F a ha ∙ product-acts F a
-      ∙ sym (applied-same 𝓡 (2 ^ A .n) (pauli 𝓡 A) (applied 𝓡 (2 ^ A .n) (pauli 𝓡 B) F) (act 𝓡 B F) second a ∙ pauli-acts 𝓡 A f (act 𝓡 B F) a ha)
-    where
-      second : (b : ℕ) → b < 2 ^ A .n → applied 𝓡 (2 ^ A .n) (pauli 𝓡 B) F b ≡ act 𝓡 B F b
-      second b hb = rw e (pauli-acts 𝓡 B g F b (rw e at hb))
+  module _ (e : A .n ≡ B .n) (f : Fitting A) (g : Fitting B) where
+    -- one matrix after the other
+    applied-twice : (F : ℕ → Amplitude R) (a : ℕ) → a < 2 ^ A .n
+        → applied 𝓡 (2 ^ A .n) (pauli 𝓡 (product A B)) F a ≡ applied 𝓡 (2 ^ A .n) (pauli 𝓡 A) (applied 𝓡 (2 ^ A .n) (pauli 𝓡 B) F) a
+    unfolding product
+    applied-twice F a ha =
+        pauli-acts 𝓡 (product A B) (product-fitting (sym e) f g) F a ha ∙ product-acts F a
+        ∙ sym (applied-same 𝓡 (2 ^ A .n) (pauli 𝓡 A) (applied 𝓡 (2 ^ A .n) (pauli 𝓡 B) F) (act 𝓡 B F) second a ∙ pauli-acts 𝓡 A f (act 𝓡 B F) a ha)
+      where
+        second : (b : ℕ) → b < 2 ^ A .n → applied 𝓡 (2 ^ A .n) (pauli 𝓡 B) F b ≡ act 𝓡 B F b
+        second b hb = rw e (pauli-acts 𝓡 B g F b (rw e at hb))
+
+    pub product-is-book : (a b : ℕ) → a < 2 ^ A .n → b < 2 ^ A .n → pauli 𝓡 (product A B) a b ≡ joined 𝓡 (2 ^ A .n) (pauli 𝓡 A) (pauli 𝓡 B) a b
+    product-is-book a b ha hb =
+        let size : ℕ = 2 ^ A .n in
+        sym (applied-ket 𝓡 size (pauli 𝓡 (product A B)) a b hb)
+        ∙ applied-twice (ket 𝓡 b) a ha
+        ∙ applied-same 𝓡 size (pauli 𝓡 A) (applied 𝓡 size (pauli 𝓡 B) (ket 𝓡 b)) (λ c. pauli 𝓡 B c b) (λ c l. applied-ket 𝓡 size (pauli 𝓡 B) c b hb) a
+        ∙ sym (joined-column 𝓡 size (pauli 𝓡 A) (pauli 𝓡 B) a b)

@@ -5,20 +5,19 @@ use Prim.Native.Nat.{ℕ, _+_, _^_, _<_}
 use native.Mathlib.Omega.{arith}
 use lib.Bits.{bitXor}
 use lib.Dec.{eqb}
-use borrow.Author.Tests.{eqb-true, eqb-false, eq-eqb, ne-eqb}
+use borrow.Author.Tests.{eqb-true, eqb-false}
 use Rattle.bitlaws.specs.Xor.{xor-twice}
 use Rattle.bitlaws.specs.Parity.{overlap, overlap-xor-l}
 use Rattle.paulilaws.specs.Pauli.{Pauli, hermitian}
 use Rattle.paulilaws.specs.Algebra.{hermitian-parity}
 use Rattle.paulilaws.specs.Fitting.{Fitting}
 use Rattle.amplitudelaws.specs.Arithmetic.{Amplitude}
-use Rattle.amplitudelaws.specs.Book.Ring.{Ring, ring, neg-zero, neg-add, mul-zero, mul-one}
+use Rattle.amplitudelaws.specs.Book.Ring.{Ring, ring, neg-zero, neg-add, mul-zero}
 use Rattle.amplitudelaws.specs.Book.Complex.{complex, real, conj, ipow, sgn}
 use Rattle.amplitudelaws.specs.Book.Signs.{sign-add, sign-same}
 use Rattle.amplitudelaws.specs.Book.Reals.{pair, conj-mul, conj-pow, conj-sign, conj-none, real-one}
-use Rattle.amplitudelaws.specs.Book.Sum.{sum-one}
-use Rattle.amplitudelaws.specs.Book.Matrix.{Matrix, identity, plus, multiple, applied, joined}
-use Rattle.amplitudelaws.specs.Book.Matrix.{applied-same, applied-plus, applied-multiple, applied-identity, joined-column}
+use Rattle.amplitudelaws.specs.Book.Matrix.{identity, ket, plus, multiple, applied, joined, adjoint}
+use Rattle.amplitudelaws.specs.Book.Matrix.{applied-same, applied-plus, applied-multiple, applied-identity, applied-ket, joined-column}
 use Rattle.amplitudelaws.specs.Book.Operators.{pauli, projector}
 use Rattle.amplitudelaws.specs.Book.Action.{act, pauli-acts}
 use Rattle.amplitudelaws.specs.Book.Part.{part, part-again}
@@ -45,19 +44,7 @@ module _ {R : Type 0} (𝓡 : Ring R) where
 
   -- ---- basis states
 
-  -- |b>
-  abbrev pub ket : ℕ → ℕ → Amplitude R
-  ket b a = identity 𝓡 a b
-
-  -- column b of a matrix
-  applied-ket : (size : ℕ) (M : Matrix R) (a b : ℕ) → b < size → applied 𝓡 size M (ket b) a ≡ M a b
-  unfolding applied identity
-  applied-ket size M a b l =
-      sum-one (complex 𝓡) size b (λ c. M a c *ᶜ cond (eqb c b) one nought) l
-      (λ c m ne. ap (λ (t : Bool). M a c *ᶜ cond t one nought) (ne-eqb c b ne) ∙ mul-zero (complex 𝓡) (M a c))
-      ∙ ap (λ (t : Bool). M a b *ᶜ cond t one nought) (eq-eqb b b refl) ∙ mul-one (complex 𝓡) (M a b)
-
-  ket-swap : (a b : ℕ) → conj 𝓡 (ket a b) ≡ ket b a
+  ket-swap : (a b : ℕ) → conj 𝓡 (ket 𝓡 a b) ≡ ket 𝓡 b a
   unfolding identity
   ket-swap a b = go (eqb b a) (eqb a b) refl refl
     where
@@ -69,10 +56,10 @@ module _ {R : Type 0} (𝓡 : Ring R) where
 
   module _ (M : Pauli) (even : hermitian M ≡ true) where
     -- <b| M |a> and <a| M |b>
-    act-swap : (a b : ℕ) → conj 𝓡 (act 𝓡 M (ket a) b) ≡ act 𝓡 M (ket b) a
+    act-swap : (a b : ℕ) → conj 𝓡 (act 𝓡 M (ket 𝓡 a) b) ≡ act 𝓡 M (ket 𝓡 b) a
     unfolding act
     act-swap a b =
-        conj-mul 𝓡 (ipow 𝓡 (M .k) *ᶜ sgn 𝓡 (overlap o (M .z))) (ket a o)
+        conj-mul 𝓡 (ipow 𝓡 (M .k) *ᶜ sgn 𝓡 (overlap o (M .z))) (ket 𝓡 a o)
         ∙ ap₂ _*ᶜ_ (conj-mul 𝓡 (ipow 𝓡 (M .k)) (sgn 𝓡 (overlap o (M .z))) ∙ ap₂ _*ᶜ_ (conj-pow 𝓡 (M .k)) (conj-sign 𝓡 (overlap o (M .z)))) (ket-swap a o)
         ∙ unfold identity in (go (eqb a o) (eqb (bitXor a (M .x)) b) refl refl)
       where
@@ -91,13 +78,22 @@ module _ {R : Type 0} (𝓡 : Ring R) where
         go false true p q = absurd (eqb-false a o p (sym (xor-twice a (M .x)) ∙ ap (λ (m : ℕ). bitXor m (M .x)) (eqb-true (bitXor a (M .x)) b q)))
         go false false p q = mul-zero (complex 𝓡) _ ∙ sym (mul-zero (complex 𝓡) _)
 
-    part-swap : (h : R) (v a b : ℕ) → conj 𝓡 (part 𝓡 h M v (ket a) b) ≡ part 𝓡 h M v (ket b) a
+    -- so M is its own adjoint
+    pub pauli-adjoint : Fitting M → (a b : ℕ) → a < 2 ^ M .n → b < 2 ^ M .n → adjoint 𝓡 (pauli 𝓡 M) a b ≡ pauli 𝓡 M a b
+    unfolding adjoint
+    pauli-adjoint f a b la lb =
+        let size : ℕ = 2 ^ M .n in
+        ap (conj 𝓡) (sym (applied-ket 𝓡 size (pauli 𝓡 M) b a la) ∙ pauli-acts 𝓡 M f (ket 𝓡 a) b lb)
+        ∙ act-swap a b
+        ∙ sym (sym (applied-ket 𝓡 size (pauli 𝓡 M) a b lb) ∙ pauli-acts 𝓡 M f (ket 𝓡 b) a la)
+
+    part-swap : (h : R) (v a b : ℕ) → conj 𝓡 (part 𝓡 h M v (ket 𝓡 a) b) ≡ part 𝓡 h M v (ket 𝓡 b) a
     unfolding part
     part-swap h v a b =
-        conj-mul 𝓡 (real 𝓡 (𝓡 .mul h h)) (ket a b +ᶜ sgn 𝓡 v *ᶜ act 𝓡 M (ket a) b)
+        conj-mul 𝓡 (real 𝓡 (𝓡 .mul h h)) (ket 𝓡 a b +ᶜ sgn 𝓡 v *ᶜ act 𝓡 M (ket 𝓡 a) b)
         ∙ ap₂ _*ᶜ_ (conj-real (𝓡 .mul h h))
-        (conj-add (ket a b) (sgn 𝓡 v *ᶜ act 𝓡 M (ket a) b)
-        ∙ ap₂ _+ᶜ_ (ket-swap a b) (conj-mul 𝓡 (sgn 𝓡 v) (act 𝓡 M (ket a) b) ∙ ap₂ _*ᶜ_ (conj-sign 𝓡 v) (act-swap a b)))
+        (conj-add (ket 𝓡 a b) (sgn 𝓡 v *ᶜ act 𝓡 M (ket 𝓡 a) b)
+        ∙ ap₂ _+ᶜ_ (ket-swap a b) (conj-mul 𝓡 (sgn 𝓡 v) (act 𝓡 M (ket 𝓡 a) b) ∙ ap₂ _*ᶜ_ (conj-sign 𝓡 v) (act-swap a b)))
 
   -- ---- the projector
 
@@ -113,8 +109,8 @@ module _ {R : Type 0} (𝓡 : Ring R) where
         (applied-multiple 𝓡 size (sgn 𝓡 v) (pauli 𝓡 M) F a ∙ ap (λ (q : Amplitude R). sgn 𝓡 v *ᶜ q) (pauli-acts 𝓡 M fitting F a l)))
 
     -- column b is the part of |b>
-    pub projector-ket : (a b : ℕ) → a < 2 ^ M .n → b < 2 ^ M .n → projector 𝓡 h M v a b ≡ part 𝓡 h M v (ket b) a
-    projector-ket a b la lb = sym (applied-ket (2 ^ M .n) (projector 𝓡 h M v) a b lb) ∙ projector-part (ket b) a la
+    pub projector-ket : (a b : ℕ) → a < 2 ^ M .n → b < 2 ^ M .n → projector 𝓡 h M v a b ≡ part 𝓡 h M v (ket 𝓡 b) a
+    projector-ket a b la lb = sym (applied-ket 𝓡 (2 ^ M .n) (projector 𝓡 h M v) a b lb) ∙ projector-part (ket 𝓡 b) a la
 
     module _ (even : hermitian M ≡ true) (a b : ℕ) (la : a < 2 ^ M .n) (lb : b < 2 ^ M .n) where
       pub projector-conj : conj 𝓡 (projector 𝓡 h M v b a) ≡ projector 𝓡 h M v a b
@@ -123,5 +119,5 @@ module _ {R : Type 0} (𝓡 : Ring R) where
       pub projector-square : 𝓡 .add (𝓡 .mul h h) (𝓡 .mul h h) ≡ 𝓡 .one → joined 𝓡 (2 ^ M .n) (projector 𝓡 h M v) (projector 𝓡 h M v) a b ≡ projector 𝓡 h M v a b
       projector-square half =
           joined-column 𝓡 (2 ^ M .n) (projector 𝓡 h M v) (projector 𝓡 h M v) a b
-          ∙ applied-same 𝓡 (2 ^ M .n) (projector 𝓡 h M v) (λ c. projector 𝓡 h M v c b) (part 𝓡 h M v (ket b)) (λ c l. projector-ket c b l lb) a
-          ∙ projector-part (part 𝓡 h M v (ket b)) a la ∙ part-again 𝓡 M even h v (ket b) a half ∙ sym (projector-ket a b la lb)
+          ∙ applied-same 𝓡 (2 ^ M .n) (projector 𝓡 h M v) (λ c. projector 𝓡 h M v c b) (part 𝓡 h M v (ket 𝓡 b)) (λ c l. projector-ket c b l lb) a
+          ∙ projector-part (part 𝓡 h M v (ket 𝓡 b)) a la ∙ part-again 𝓡 M even h v (ket 𝓡 b) a half ∙ sym (projector-ket a b la lb)

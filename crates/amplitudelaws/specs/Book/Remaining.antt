@@ -21,7 +21,8 @@ use Rattle.amplitudelaws.specs.Book.Complex.{exact, complex, real, ipow,
 use Rattle.amplitudelaws.specs.Book.Signs.{sign-add, sign-same}
 use Rattle.amplitudelaws.specs.Book.Reals.{conj-pow, real-add, real-mul, real-one}
 use Rattle.amplitudelaws.specs.Book.Parts.{mixed-is, directed-is, projectionCoefficient-is}
-use Rattle.amplitudelaws.specs.Book.Operators.{standing, stretch}
+use Rattle.amplitudelaws.specs.Book.Operators.{stretch}
+use Rattle.amplitudelaws.specs.Book.Standing.{basisRead}
 use Rattle.amplitudelaws.specs.Book.Action.{act}
 use Rattle.amplitudelaws.specs.Book.Part.{part, half-complex}
 use Rattle.amplitudelaws.specs.Book.Diagonal.{part-inside}
@@ -79,8 +80,8 @@ module _ {R : Type 0} (𝓡 : Ring R) where
 
     by : (d : Bool) → eqb (M .x) 0 ≡ d → digit p (cond d (M .z) (M .x)) ≡ 1
         → remainingBy (exact 𝓡 h) d (M .x) (M .z) (minus (M .k)) (projectionCoefficient (exact 𝓡 h) (M .k)) p v F j
-        ≡ real 𝓡 (stretch 𝓡 h d) *ᶜ part 𝓡 h M v F (standing d M p v j)
-    unfolding remainingBy stretch standing
+        ≡ real 𝓡 (stretch 𝓡 h d) *ᶜ part 𝓡 h M v F (basisRead d M p v j)
+    unfolding remainingBy stretch basisRead
     by true x set =
         sym (source-inside (eqb-true (M .x) 0 x) set)
         ∙ sym (ap (λ (q : Amplitude R). q *ᶜ part 𝓡 h M v F (source p (M .z) (minus (M .k) + v) j)) (real-one 𝓡) ∙ complex 𝓡 .one-mul _)
@@ -91,6 +92,6 @@ module _ {R : Type 0} (𝓡 : Ring R) where
         ∙ merged (complex 𝓡) (real 𝓡 h) (F b) (sgn 𝓡 v *ᶜ act 𝓡 M F b) (half-complex 𝓡 h half)
         ∙ unfold part in (ap₂ (λ (q r : Amplitude R). q *ᶜ (r *ᶜ (F b +ᶜ sgn 𝓡 v *ᶜ act 𝓡 M F b))) (sym (real-add 𝓡 h h)) (sym (real-mul 𝓡 h h)))
 
-    pub remaining-part : remaining (exact 𝓡 h) M p v F j ≡ real 𝓡 (stretch 𝓡 h (eqb (M .x) 0)) *ᶜ part 𝓡 h M v F (standing (eqb (M .x) 0) M p v j)
+    pub remaining-part : remaining (exact 𝓡 h) M p v F j ≡ real 𝓡 (stretch 𝓡 h (eqb (M .x) 0)) *ᶜ part 𝓡 h M v F (basisRead (eqb (M .x) 0) M p v j)
     unfolding remaining
     remaining-part = by (eqb (M .x) 0) refl (unfold pivotMask in (ok .has))

@@ -42,7 +42,7 @@ step-got c = sym (c .before .before .read .ensures) ∙ ap readTold (c .got .giv
 carried-step-requires : tie.Need-carried-step-requires Inv-loop μ-loop
 carried-step-requires c κs =
     let got = c .before in
-    step-suited (got .before .before .before .loop .inv .0) _ _ (step-got got)
+    step-suited (got .before .before .before .loop .inv .0) _ _ (step-got got) (got .before .before .before .before .before .before .pre .small)
 
 write-flag-requires : tie.Need-write-flag-requires Inv-loop μ-loop
 write-flag-requires c κs =
@@ -53,7 +53,7 @@ write-flag-requires c κs =
 passed-requires : tie.Need-passed-requires Inv-loop μ-loop
 passed-requires c κs =
     let got = c .before .before .before .before .before .before in
-    step-suited (got .before .before .before .loop .inv .0) _ _ (step-got got)
+    step-suited (got .before .before .before .loop .inv .0) _ _ (step-got got) (got .before .before .before .before .before .before .pre .small)
 
 loop-less : tie.Need-loop-less Inv-loop μ-loop
 loop-less c =
@@ -66,9 +66,8 @@ loop-again c =
     let made = wrote .before .before in
     let got = made .before .before in
     let at-loop = got .before .before .before in
-    let inv = at-loop .loop .inv in
-    let small = at-loop .before .before .before .pre .small in (
-      turn (inv .0) _ _ (step-got got) small _ _ _ (made .carried-step .ensures) (c .passed .ensures) (wrote .write-flag .ensures),
+    let inv = at-loop .loop .inv in (
+      turn (inv .0) _ _ (step-got got) _ _ _ (made .carried-step .ensures) (c .passed .ensures) (wrote .write-flag .ensures),
       ap length (wrote .write-flag .ensures) ∙ flag-length _ _ _ ∙ inv .1,
     )
 

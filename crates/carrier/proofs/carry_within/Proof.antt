@@ -42,7 +42,7 @@ returns-2 c =
     let a = checked .before .before .before .args in
     absurd
     (no-start (a .limit) (a .run .now) (ap checkTold (sym (told .enum-told .given .1)) ∙ checked .check-within .ensures)
-    (unstarted (asked .start .ensures) (c .enum-told2 .given .1)))
+    (unstarted _ _ (asked .start .ensures) (c .enum-told2 .given .1)))
 
 carrying-row-requires : tie.Need-carrying-row-requires
 carrying-row-requires c κs = search needs
@@ -55,7 +55,7 @@ returns-3 c =
     let checked = told .before .before in
     let a = checked .before .before .before .args in
     row-refused (a .limit) (a .run .now) (activeOf (a .pauli)) (a .out .now) (ap checkTold (sym (told .enum-told .given .1)) ∙ checked .check-within .ensures)
-    (started (asked .start .ensures) (width .width .given .1)) (c .before .carrying-row .ensures) (λ none. omega (arith, c .if1 .taken))
+    (started _ _ (asked .start .ensures) (width .width .given .1) .1) (c .before .carrying-row .ensures) (λ none. omega (arith, c .if1 .taken))
 
 copy-requires : tie.Need-copy-requires
 copy-requires c κs =
@@ -73,7 +73,7 @@ carry-steps-requires c κs =
     let start = checked .before .before .before in
     let a = start .args in
     ready (a .limit) (a .run .now) (activeOf (a .pauli)) (a .out .now) (ap checkTold (sym (told .enum-told .given .1)) ∙ checked .check-within .ensures)
-    (started (asked .start .ensures) (width .width .given .1))
+    (started _ _ (asked .start .ensures) (width .width .given .1) .1)
     (row .carrying-row .ensures) (omega (arith, copied .before .before .if1 .left)) (copied .copy .ensures .1) (start .pre)
 
 same-length : tie.Need-same-length
@@ -91,7 +91,7 @@ returns-4 c =
     let start = checked .before .before .before in
     let a = start .args in
     done (a .limit) (a .run .now) (activeOf (a .pauli)) (a .out .now) (ap checkTold (sym (told .enum-told .given .1)) ∙ checked .check-within .ensures)
-    (started (asked .start .ensures) (width .width .given .1))
+    (started _ _ (asked .start .ensures) (width .width .given .1) .1)
     (row .carrying-row .ensures) (omega (arith, copied .before .before .if1 .left)) (copied .copy .ensures .1) _ _
     (carried .carry-steps .ensures .0) (carried .carry-steps .ensures .1)
 

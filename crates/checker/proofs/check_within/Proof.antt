@@ -10,10 +10,10 @@ use Rattle.answers.specs.Answer.Answer.{refusedAt}
 use Rattle.amplitudelaws.specs.Step.{Step}
 use Rattle.framelaws.specs.Survey.{survey}
 use Rattle.runlaws.specs.Calls.{surveyOf, checking}
-use Rattle.runlaws.specs.Field.{fieldAt}
-use Rattle.runlaws.specs.Run.{Run, mostBytes, mapped, walk, startWidth, runOf}
+use Rattle.runlaws.specs.Field.{mostBytes, fieldAt}
+use Rattle.runlaws.specs.Run.{Run, mapped, walk, startWidth, runOf}
 use Rattle.runlaws.specs.Mapped.{mapped-mapped}
-use Rattle.runlaws.specs.WholeRun.{start-read, run-long, run-unbegun, run-begun}
+use Rattle.runlaws.specs.WholeRun.{start-read, run-begun}
 use Rattle.fields.proofs.Started.{started, unstarted}
 use Rattle.checker.proofs.check_within.Statement.{statement}
 use Rattle.checker.proofs.check_within.Tie as tie
@@ -30,9 +30,6 @@ begun limit s n short e =
     let whole : List (Step Float) → Run = λ ts. record { width = n; steps = ts } in
     sym (ap (mapped surveyOf) (run-begun limit s short n e) ∙ mapped-mapped surveyOf whole steps)
 
-returns : tie.Need-returns
-returns c = unbegun _ _ (run-long _ _ (c .if1 .taken))
-
 start-requires : tie.Need-start-requires
 start-requires c κs = search needs
 
@@ -42,29 +39,26 @@ enum-known-width c = search needs
 enum-told : tie.Need-enum-told
 enum-told c = search needs
 
-returns-2 : tie.Need-returns-2
-returns-2 c =
-    let r = c .before .before in
-    unbegun _ _ (run-unbegun _ _ (r .before .if1 .left) (unstarted (r .start .ensures) (c .enum-told .given .1)))
+returns : tie.Need-returns
+returns c = unbegun _ _ (unstarted _ _ (c .before .before .start .ensures) (c .enum-told .given .1))
 
 survey-steps-requires : tie.Need-survey-steps-requires
 survey-steps-requires c κs =
-    let r = c .before .before .before in
-    (start-read _ _ _ (started (r .start .ensures) (c .before .width .given .1)) .begins, r .before .if1 .left)
+    let begins = started _ _ (c .before .before .before .start .ensures) (c .before .width .given .1) in
+    (start-read _ _ _ (begins .1) .begins, begins .0)
 
-returns-3 : tie.Need-returns-3
-returns-3 c =
-    let r = c .before .before .before .before in
-    c .survey-steps .ensures ∙ begun _ _ _ (r .before .if1 .left) (started (r .start .ensures) (c .before .before .width .given .1))
+returns-2 : tie.Need-returns-2
+returns-2 c =
+    let begins = started _ _ (c .before .before .before .before .start .ensures) (c .before .before .width .given .1) in
+    c .survey-steps .ensures ∙ begun _ _ _ (begins .0) (begins .1)
 
 pub check-within-spec : {M : Type 1} → statement M
 check-within-spec =
     tie.close
     (tie.spec
-    returns
     start-requires
     enum-known-width
     enum-told
-    returns-2
+    returns
     survey-steps-requires
-    returns-3)
+    returns-2)

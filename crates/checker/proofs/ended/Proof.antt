@@ -27,7 +27,7 @@ module _ (size : ℕ) (v : Survey) {got : Read} where
   unfolding endedBy
   at-end d e h = rw (e, le-ltb (d .at) size h)
 
-  at-step : (t : Step) (d : Cursor) → got ≡ read.Step t d → refusedAt 0 0 ≡ endedBy size (readTold got) v
+  at-step : (t : Step) (d : Cursor) → got ≡ read.Step t d → refusedAt 14 (d .at) ≡ endedBy size (readTold got) v
   unfolding endedBy
   at-step t d e = rw e
 
@@ -40,8 +40,8 @@ enum-known-got-2 c = search needs
 returns : tie.Need-returns
 returns c = past-end _ _ _ (c .before .before .before .got2 .given .1) (c .if1 .taken)
 
-enum-told : tie.Need-enum-told
-enum-told c = search needs
+enum-known-got-3 : tie.Need-enum-known-got-3
+enum-known-got-3 c = search needs
 
 returns-2 : tie.Need-returns-2
 returns-2 c = at-refusal _ _ _ _ (c .before .got .given .1)
@@ -50,9 +50,9 @@ returns-3 : tie.Need-returns-3
 returns-3 c = at-end _ _ _ (c .before .before .before .got2 .given .1) (c .if1 .left)
 
 returns-4 : tie.Need-returns-4
-returns-4 c = at-step _ _ _ _ (c .enum-told .given .1)
+returns-4 c = at-step _ _ _ _ (c .before .got3 .given .1)
 
 pub ended-spec : {M : Type 1} → statement M
 ended-spec =
     tie.close
-    (tie.spec enum-known-got enum-known-got-2 returns enum-told returns-2 returns-3 returns-4)
+    (tie.spec enum-known-got enum-known-got-2 returns enum-known-got-3 returns-2 returns-3 returns-4)

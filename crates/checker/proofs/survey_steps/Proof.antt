@@ -22,7 +22,7 @@ abbrev μ-loop : tie.MeasureT-loop
 μ-loop run width limit cursor₀ survey₀ cursor survey = length run - cursor .at
 
 loop-holds : tie.Need-loop-holds Inv-loop μ-loop
-loop-holds c = at-start _ _ _ (c .before .pre .0)
+loop-holds c = at-start _ _ _ (c .before .pre .0) (c .before .pre .1)
 
 read-requires : tie.Need-read-requires Inv-loop μ-loop
 read-requires c κs = search needs
@@ -47,7 +47,7 @@ step-got c = sym (c .before .before .read .ensures) ∙ ap readTold (c .got .giv
 surveyed-requires : tie.Need-surveyed-requires Inv-loop μ-loop
 surveyed-requires c κs =
     let at-loop = c .before .before .before .before in
-    surveyable (at-loop .loop .inv) _ _ (step-got (c .before)) (at-loop .before .before .pre .1)
+    surveyable (at-loop .loop .inv) _ _ (step-got (c .before))
 
 loop-less : tie.Need-loop-less Inv-loop μ-loop
 loop-less c =

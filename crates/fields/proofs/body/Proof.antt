@@ -4,21 +4,21 @@ use mathlib.Core.List.{List}
 use mathlib.Core.Option.{Option}
 use Prim.Native.Nat.{ℕ}
 use native.Mathlib.Omega.{arith}
-use Rattle.runlaws.specs.Field.{Field, fieldAt}
+use Rattle.runlaws.specs.Field.{Field}
 use Rattle.fields.specs.declared.FieldAnswer.{FieldAnswer}
 use Rattle.fields.specs.declared.FieldAnswer.the-variants.{Whole}
-use Rattle.fields.specs.Told.{headTold, headOf, bodyOf}
+use Rattle.fields.specs.Told.{fieldIn, placeIn, headTold, headOf, bodyOf}
 use Rattle.fields.proofs.Fields.{field-none, Placed, body-placed}
 use Rattle.fields.proofs.body.Statement.{statement}
 use Rattle.fields.proofs.body.Tie as tie
 use Rattle.fields.proofs.field.Reads as field-reads
 
 -- the head of the field, by what `field` answered
-told : (at : ℕ) (f : Option Field) {r v : FieldAnswer} → headTold at r ≡ headOf at f → r ≡ v → headTold at v ≡ headOf at f
-told at f e given = ap (headTold at) (sym given) ∙ e
+told : (at : ℕ) (f : Option Field) {r v : FieldAnswer} → headTold r ≡ headOf at f → r ≡ v → headTold v ≡ headOf at f
+told at f e given = ap headTold (sym given) ∙ e
 
-placed : (s : List ℕ) (at : ℕ) {tag next : ℕ} {r : FieldAnswer} → headTold at r ≡ headOf at (fieldAt s at) → r ≡ Whole tag next → Placed s at next
-placed s at {tag} {next} e given = body-placed s at tag next (told at (fieldAt s at) e given)
+placed : (s : List ℕ) (at : ℕ) {tag next : ℕ} {r : FieldAnswer} → headTold r ≡ headOf (placeIn s at) (fieldIn s at) → r ≡ Whole tag next → Placed s at next
+placed s at {tag} {next} e given = body-placed s at tag next (told (placeIn s at) (fieldIn s at) e given)
 
 field-requires : tie.Need-field-requires
 field-requires c κs = search needs

@@ -1,6 +1,7 @@
-use mathlib.Core.Path.{ap}
+use mathlib.Core.Path.{ap, _∙_}
 use Rattle.kernels.specs.Kernel.{Action, actionOf, rotationOf}
 use Rattle.amplitudelaws.specs.Rotation.{rotationCoefficient}
+use Rattle.kernels.proofs.DefaultPivot.{searched}
 use borrow.Author.Needs.{needs}
 use Rattle.kernels.proofs.rotation_kernel.Statement.{statement}
 use Rattle.kernels.proofs.rotation_kernel.Tie as tie
@@ -8,8 +9,8 @@ use Rattle.kernels.proofs.rotation_kernel.Tie as tie
 action-requires : tie.Need-action-requires
 action-requires c κs = search needs
 
-highest-bit-requires : tie.Need-highest-bit-requires
-highest-bit-requires c κs = search needs
+highest-or-zero-requires : tie.Need-highest-or-zero-requires
+highest-or-zero-requires c κs = search needs
 
 times-requires : tie.Need-times-requires
 times-requires c κs = search needs
@@ -19,8 +20,11 @@ unfolding rotationOf rotationCoefficient actionOf
 returns c =
     let act = c .before .before .before .before .action .ensures in
     let even = ap (λ (A : Action). A .even) act in
-    rw (c .before .highest-bit .ensures, c .times .ensures, act, even)
+    let start = c .before .before .before .before .before in
+    let P = start .args .pauli in
+    let pair = c .before .highest-or-zero .ensures ∙ searched (P .nqubits) 64 (P .x) (search needs) (start .pre .1) in
+    rw (pair, c .times .ensures, act, even)
 
 pub rotation-kernel-spec : {M : Type 1} → statement M
 rotation-kernel-spec =
-    tie.close (tie.spec action-requires highest-bit-requires times-requires returns)
+    tie.close (tie.spec action-requires highest-or-zero-requires times-requires returns)

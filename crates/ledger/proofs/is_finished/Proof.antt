@@ -1,7 +1,7 @@
 -- `ledger::is_finished` meets its contract, answer by answer. Assumes nothing.
 use mathlib.Core.Path.{sym, ap}
 use borrow.Author.Needs.{needs}
-use Rattle.runlaws.specs.Ledger.{isAccepted}
+use Rattle.answers.specs.Answer.{isAccepted}
 use Rattle.runner.specs.declared.RunAnswer.{RunAnswer}
 use Rattle.runner.specs.Told.{runTold}
 use Rattle.ledger.proofs.is_finished.Statement.{statement}

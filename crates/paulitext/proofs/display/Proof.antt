@@ -1,7 +1,7 @@
 -- Each return is a case of Showing; what coefficient_phase tells decides row 3.
 use mathlib.Core.Path.{sym, ap, _∙_}
 use Rattle.paulilaws.specs.Pauli.{coefficient}
-use Rattle.paulilaws.specs.Fitting.{fits-fitting}
+use Rattle.paulilaws.specs.Fitting.{fits-admitted}
 use Rattle.pauligroup.specs.Calls.{coefficientCall, phaseTold}
 use Rattle.paulis.specs.Strings.{pauliOf}
 use Rattle.paulitext.proofs.Walk.{told-value, told-refused}
@@ -31,7 +31,7 @@ unfolding coefficientCall
 text-len-requires c κs =
     let P = pauliOf (c .before .before .before .before .before .args .pauli) in
     let told = told-value P (coefficient P) (ap phaseTold (sym (c .before .coefficient .given .1)) ∙ c .before .before .before .coefficient-phase .ensures) in
-    fits-fitting P (told .0) .width
+    fits-admitted P (told .0) .width
 
 returns-2 : tie.Need-returns-2
 unfolding coefficientCall

@@ -8,7 +8,6 @@ use lib.ListN.{length, getD}
 use mathlib.Core.Option.{none, some}
 use Rattle.answers.specs.Answer.{refuse}
 use Rattle.paulilaws.specs.Pauli.{Pauli}
-use Rattle.paulilaws.specs.Fitting.{identity-fitting}
 use Rattle.paulis.specs.Strings.{pauliOf, letterTold, letterMeant}
 use Rattle.paulitext.specs.Calls.{readCall}
 use Rattle.paulitext.proofs.Walk.{Reached, letter-some, letter-none, reached-start, reached-end, reached-none, reached-next, made-identity, made-set}
@@ -37,7 +36,7 @@ loop-holds c =
     let ops = c .before .before .before .before .args .ops .now in
     let short = c .before .before .if1 .left in
     subst (λ (P : Pauli). Reached ops 0 P) (sym (made-identity (c .before .pauli-identity .result) (length ops) short (c .before .pauli-identity .ensures)))
-    (reached-start ops (identity-fitting (length ops) short))
+    (reached-start ops short)
 
 shared-slice-read-letter : tie.Need-shared-slice-read-letter Inv-loop μ-loop
 shared-slice-read-letter c = omega arith
@@ -79,7 +78,7 @@ loop-again c =
     let read = c .before .before .before .letter2 .given in
     let below : l .q < length ops = c .before .before .before .before .before .before .before .loop-test .taken in
     let good : letterOfByte (getD ops (l .q) 0) ≡ some (letterMeant (read .0 .0)) = letter-some (ap letterTold (sym (read .1)) ∙ c .before .before .before .before .before .letter .ensures) in
-    let next = made-set (c .before .set .result) (pauliOf (l .pauli)) (l .q) (letterMeant (read .0 .0)) (l .inv .fitting) (omega (arith, l .inv .width)) (c .before .set .ensures) in
+    let next = made-set (c .before .set .result) (pauliOf (l .pauli)) (l .q) (letterMeant (read .0 .0)) (l .inv .admitted) (omega (arith, l .inv .width)) (c .before .set .ensures) in
     subst (λ (P : Pauli). Reached ops (l .q + 1) P) (sym next) (reached-next ops (l .q) (pauliOf (l .pauli)) (l .inv) below (letterMeant (read .0 .0)) good)
 
 done-requires : tie.Need-done-requires Inv-loop μ-loop

@@ -1,12 +1,39 @@
-use mathlib.Core.Path.{sym, ap, _∙_}
-use Rattle.runlaws.specs.Field.{fieldAt}
-use Rattle.runlaws.specs.Reading.{readField, readAt}
-use Rattle.steps.specs.Meant.{cursorOf}
-use Rattle.fields.specs.Told.{headTold}
-use Rattle.fields.proofs.Fields.{field-of, field-none}
+-- `reader::read` meets its contract: the run's length, the cursor's width, then the field. Assumes nothing.
+use mathlib.Core.Path.{_≡_, sym, ap, _∙_}
+use mathlib.Core.List.{List}
+use mathlib.Core.Option.{Option, none}
+use Prim.Native.Nat.{ℕ, _≤_, _<_}
+use lib.ListN.{length}
+use native.Mathlib.Omega.{arith}
+use borrow.Author.Tests.{lt-ltb, le-ltb}
+use Rattle.runlaws.specs.Field.{Field, mostBytes}
+use Rattle.runlaws.specs.Reading.{Cursor, readField, readAt}
+use Rattle.runlaws.specs.Reading.Read.{refusedRead}
+use Rattle.runlaws.specs.Fields.{read-within}
+use Rattle.fields.specs.Told.{fieldIn, headTold}
+use Rattle.fields.proofs.Fields.{field-in, field-of, field-none}
 use borrow.Author.Needs.{needs}
 use Rattle.reader.proofs.read.Statement.{statement}
 use Rattle.reader.proofs.read.Tie as tie
+
+module _ (limit : ℕ) (s : List ℕ) (c : Cursor) where
+  too-long : mostBytes < length s → refusedRead 14 0 ≡ readAt limit s c
+  unfolding readAt
+  too-long h = rw (lt-ltb mostBytes (length s) h)
+
+  module _ (short : length s ≤ mostBytes) where
+    over : limit < c .width → refusedRead 14 (c .at) ≡ readAt limit s c
+    unfolding readAt
+    over h = rw (le-ltb mostBytes (length s) short, lt-ltb limit (c .width) h)
+
+    field-read : c .width ≤ limit → (f : Option Field) → fieldIn s (c .at) ≡ f → readField limit c f ≡ readAt limit s c
+    field-read within f e = sym (read-within limit s c short within ∙ ap (readField limit c) (sym (field-in s (c .at) short) ∙ e))
+
+returns : tie.Need-returns
+returns c = too-long _ _ _ (omega arith)
+
+returns-2 : tie.Need-returns-2
+returns-2 c = over _ _ _ (omega arith) (c .if2 .taken)
 
 field-requires : tie.Need-field-requires
 field-requires c κs = search needs
@@ -17,12 +44,12 @@ enum-known-tag c = search needs
 enum-told : tie.Need-enum-told
 enum-told c = search needs
 
-returns : tie.Need-returns
-unfolding readAt readField
-returns c =
-    let a = c .before .before .before .before .args in
-    let cut = field-none (a .cursor .at) (fieldAt (a .run .now) (a .cursor .at)) (ap (headTold (a .cursor .at)) (sym (c .enum-told .given .1)) ∙ c .before .before .field .ensures) in
-    ap (readField (a .limit) (cursorOf (a .cursor))) (sym cut)
+returns-3 : tie.Need-returns-3
+unfolding readField
+returns-3 c =
+    let asked = c .before .before in
+    let cut = field-none _ _ (ap headTold (sym (c .enum-told .given .1)) ∙ asked .field .ensures) in
+    field-read _ _ _ (asked .before .before .before .if1 .left) (asked .before .if2 .left) none cut
 
 body-requires : tie.Need-body-requires
 body-requires c κs = search needs
@@ -30,22 +57,23 @@ body-requires c κs = search needs
 read-field-requires : tie.Need-read-field-requires
 read-field-requires c κs = search needs
 
-returns-2 : tie.Need-returns-2
-unfolding readAt
-returns-2 c =
+returns-4 : tie.Need-returns-4
+returns-4 c =
     let matched = c .before .before .before in
-    let a = matched .before .before .before .before .args in
-    let whole = field-of (a .cursor .at) (fieldAt (a .run .now) (a .cursor .at)) _ _ _ (ap (headTold (a .cursor .at)) (sym (matched .tag .given .1)) ∙ matched .before .before .field .ensures) (c .before .body .ensures) in
-    c .read-field .ensures ∙ ap (readField (a .limit) (cursorOf (a .cursor))) (sym whole)
+    let asked = matched .before .before in
+    let whole = field-of _ _ _ _ _ (ap headTold (sym (matched .tag .given .1)) ∙ asked .field .ensures) (c .before .body .ensures) in
+    c .read-field .ensures ∙ field-read _ _ _ (asked .before .before .before .if1 .left) (asked .before .if2 .left) _ whole
 
 pub read-spec : {M : Type 1} → statement M
 read-spec =
     tie.close
     (tie.spec
+    returns
+    returns-2
     field-requires
     enum-known-tag
     enum-told
-    returns
+    returns-3
     body-requires
     read-field-requires
-    returns-2)
+    returns-4)

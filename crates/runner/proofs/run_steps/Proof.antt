@@ -33,12 +33,12 @@ enum-told c = search needs
 returns : tie.Need-returns Inv-loop μ-loop
 returns c =
     let asked = c .before .before in
-    absurd (no-start (asked .before .before .before .before .before .before .pre) (unstarted (asked .start .ensures) (c .enum-told .given .1)))
+    absurd (no-start (asked .before .before .before .before .before .before .pre) (unstarted _ _ (asked .start .ensures) (c .enum-told .given .1)))
 
 loop-holds : tie.Need-loop-holds Inv-loop μ-loop
 loop-holds c =
     let asked = c .before .before .before in
-    underway-outset (asked .before .before .before .before .before .before .pre) _ (started (asked .start .ensures) (c .before .width .given .1))
+    underway-outset (asked .before .before .before .before .before .before .pre) _ (started _ _ (asked .start .ensures) (c .before .width .given .1) .1)
 
 read-requires : tie.Need-read-requires Inv-loop μ-loop
 read-requires c κs = search needs

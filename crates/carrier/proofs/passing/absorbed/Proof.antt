@@ -1,7 +1,8 @@
 use mathlib.Core.Path.{sym, ap, _∙_, subst}
 use Prim.Native.Nat.{_*_}
 use Rattle.bitlaws.specs.Digit.{bitOf}
-use Rattle.paulilaws.specs.Fitting.{Fitting, product-fitting}
+use Rattle.paulilaws.specs.Fitting.{Admitted, product-fitting}
+use Rattle.paulilaws.specs.Pauli.{product}
 use Rattle.paulilaws.specs.Frame.{raised}
 use Rattle.framelaws.specs.Carrying.{absorbed}
 use borrow.Author.Needs.{needs}
@@ -19,7 +20,8 @@ times-requires c κs = search needs
 signed-requires : tie.Need-signed-requires
 signed-requires c κs =
     let p = c .before .before .pre in
-    subst Fitting (sym (c .times .ensures)) (product-fitting (sym (p .width)) (p .first) (p .second))
+    subst Admitted (sym (c .times .ensures))
+    (record { fitting = product-fitting (sym (p .width)) (p .first .fitting) (p .second); width = unfold product in (p .first .width) })
 
 returns-2 : tie.Need-returns-2
 unfolding absorbed

@@ -4,7 +4,7 @@ use Prim.Native.Nat.{ℕ, _<_}
 use Rattle.answers.specs.Answer.{valueOr}
 use Rattle.bitlaws.specs.Digit.{bitOf}
 use Rattle.paulilaws.specs.Pauli.{Pauli}
-use Rattle.paulilaws.specs.Fitting.{Fitting}
+use Rattle.paulilaws.specs.Fitting.{Admitted}
 use Rattle.paulilaws.specs.Frame.{dropped}
 use Rattle.activepauli.specs.Active.{activeOf}
 use Rattle.activepauli.specs.Accepted.{dropped-accepted}
@@ -43,9 +43,11 @@ returns c =
     let is : whole ≡ absorbed t M v Q
     = c .before .before .absorbed .ensures
     ∙ ap₂ (λ (s : Bool) (n : ℕ). absorbed s M n Q) (c .before .before .before .meets .ensures) (c .before .before .before .before .flipped .ensures) in
-    let fitting : Fitting whole = subst Fitting (sym is) (absorbed-fitting M v Q t (sym (pair .width)) (pair .second) (pair .first)) in
+    let admitted : Admitted whole
+    = subst Admitted (sym is)
+    (record { fitting = absorbed-fitting M v Q t (sym (pair .width)) (pair .second) (pair .first .fitting); width = rw (absorbed-width M v Q t) (pair .first .width) }) in
     let inside : p < whole .n = subst (λ (n : ℕ). p < n) (sym (ap (λ (P : Pauli). P .n) is ∙ absorbed-width M v Q t)) (start .pre .1) in
-    let told = c .before .dropped .ensures ∙ dropped-accepted whole fitting p inside in
+    let told = c .before .dropped .ensures ∙ dropped-accepted whole admitted p inside in
     c .pauli-or .ensures ∙ ap (valueOr whole) told ∙ ap (dropped p) is
 
 pub past-projection-spec : {M : Type 1} → statement M

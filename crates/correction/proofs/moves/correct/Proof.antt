@@ -1,25 +1,27 @@
-use mathlib.Core.Path.{sym, subst}
-use Prim.Native.Nat.{ℕ}
-use native.Mathlib.Omega.{arith}
-use Rattle.statelaws.specs.Pairs.{Pivoted}
-use Rattle.kernels.specs.Pivot.{highest-pivot}
+use mathlib.Core.Path.{sym, ap, _∙_}
+use Rattle.bitlaws.specs.Highest.{none-zero}
+use Rattle.bits.specs.Highest.{highestTold}
+use Rattle.kernels.specs.Pivot.{found-pivot}
 use borrow.Author.Needs.{needs}
 use Rattle.correction.proofs.moves.correct.Statement.{statement}
 use Rattle.correction.proofs.moves.correct.Tie as tie
 
-correct-alone-requires : tie.Need-correct-alone-requires
-correct-alone-requires c κs = search needs
-
 highest-bit-requires : tie.Need-highest-bit-requires
 highest-bit-requires c κs = search needs
 
-correct-pairs-requires : tie.Need-correct-pairs-requires
-correct-pairs-requires c κs =
-    let start = c .before .before .before .before .before .before .before in
+enum-known-pair-bit : tie.Need-enum-known-pair-bit
+enum-known-pair-bit c = search needs
+
+enum-told : tie.Need-enum-told
+enum-told c = search needs
+
+correct-alone-requires : tie.Need-correct-alone-requires
+correct-alone-requires c κs =
+    let searched = c .before .before .before .before in
+    let start = searched .before .before .before in
     let P = start .args .pauli in
-    let pre = start .pre in
-    let pivot = highest-pivot (P .nqubits) (P .x) (omega (arith, pre .0)) (pre .1) (c .before .before .before .if1 .left) in
-    (pre .0, subst (λ (p : ℕ). Pivoted (P .nqubits) p (P .x)) (sym (c .highest-bit .ensures)) pivot, pre .2, pre .3)
+    let none-set = sym (searched .highest-bit .ensures) ∙ ap highestTold (c .before .before .enum-told .given .1) in
+    (start .pre .0, none-zero 64 (P .x) (search needs) none-set, start .pre .2, start .pre .3)
 
 same-length : tie.Need-same-length
 same-length c = search needs
@@ -29,6 +31,15 @@ same-length-2 c = search needs
 
 returns : tie.Need-returns
 returns c = search needs
+
+correct-pairs-requires : tie.Need-correct-pairs-requires
+correct-pairs-requires c κs =
+    let found = c .before .before .before in
+    let searched = found .before .before in
+    let start = searched .before .before .before in
+    let P = start .args .pauli in
+    let is-set = sym (searched .highest-bit .ensures) ∙ ap highestTold (found .pair-bit .given .1) in
+    (start .pre .0, found-pivot (P .nqubits) 64 (P .x) _ (start .pre .1) is-set, start .pre .2, start .pre .3)
 
 same-length-3 : tie.Need-same-length-3
 same-length-3 c = search needs
@@ -43,12 +54,14 @@ pub correct-spec : {M : Type 1} → statement M
 correct-spec =
     tie.close
     (tie.spec
-    correct-alone-requires
     highest-bit-requires
-    correct-pairs-requires
+    enum-known-pair-bit
+    enum-told
+    correct-alone-requires
     same-length
     same-length-2
     returns
+    correct-pairs-requires
     same-length-3
     same-length-4
     returns-2)

@@ -37,8 +37,8 @@ loop-holds c =
     let start = c .before .before .before in
     (one-shifted 64 (start .args .pauli .nqubits - 1) (omega (arith, start .pre .0)), omega arith, sweeping-none (start .pre .2) (start .pre .3))
 
-open-bit-requires : tie.Need-open-bit-requires Inv-loop μ-loop
-open-bit-requires c κs = search needs
+opened-at-requires : tie.Need-opened-at-requires Inv-loop μ-loop
+opened-at-requires c κs = let pre = c .before .before .before .before .before .pre in omega (arith, pre .1 .inside, pre .0)
 
 exponent-requires : tie.Need-exponent-requires Inv-loop μ-loop
 exponent-requires c κs = search needs
@@ -51,7 +51,7 @@ exchange-requires c κs =
     let opened = c .before .before .before .before in
     let at-loop = opened .before .before in
     let pre = at-loop .before .before .before .before .pre in
-    turn-inside (pre .1) (pre .0) (omega arith) (opened .open-bit .ensures) (at-loop .loop .inv .2)
+    turn-inside (pre .1) (pre .0) (omega arith) (opened .opened-at .ensures) (at-loop .loop .inv .2)
 
 add-k : tie.Need-add-k Inv-loop μ-loop
 add-k c = omega arith
@@ -70,11 +70,11 @@ loop-again c =
     let P = start .args .pauli in
     let inv = at-loop .loop .inv in
     let S = stateOf (at-loop .loop .re) (at-loop .loop .im) in
-    let left = opened .open-bit .result in
+    let left = opened .opened-at .result in
     let right = bitXor left (P .x) in (
       inv .0,
       omega arith,
-      turn-more (start .pre .1) (start .pre .0) (omega arith) (opened .open-bit .ensures)
+      turn-more (start .pre .1) (start .pre .0) (omega arith) (opened .opened-at .ensures)
           (λ (o : ℕ) (p q : Point). quarters binary ((P .phase + 2 * overlap o (P .z)) % 4) q) (inv .2) _ _ _
           (called .exchange .ensures)
           (ap (λ (e : ℕ). quarters binary e (point S right)) (ap (λ (e : ℕ). e % 4) (to-right .before .exponent .ensures) ∙ mod-mod _ 4))
@@ -99,7 +99,7 @@ correct-pairs-spec =
     sub-half
     shl-half
     loop-holds
-    open-bit-requires
+    opened-at-requires
     exponent-requires
     exponent-requires-2
     exchange-requires

@@ -1,32 +1,25 @@
-use mathlib.Core.Path.{ap, _∙_}
-use mathlib.Core.Bool.{false}
-use Prim.Native.Nat.{ℕ}
-use Rattle.answers.specs.Row.{answered}
+use mathlib.Core.Path.{_∙_}
+use Prim.Native.Nat.{_^_}
 use Rattle.activepauli.specs.Active.{activeOf}
-use Rattle.amplitudelaws.specs.Rows.{measurementRow}
-use Rattle.kernels.specs.Kernel.{highestOr, defaultPivot, measurementOf}
+use Rattle.kernels.specs.Pivot.{mask-below}
+use Rattle.kernels.proofs.DefaultPivot.{default-answered}
 use borrow.Author.Needs.{needs}
 use Rattle.kernels.proofs.PrecomputedActivePauliMeasurementKernel.from_pauli.Statement.{
   statement,
 }
 use Rattle.kernels.proofs.PrecomputedActivePauliMeasurementKernel.from_pauli.Tie as tie
 
-pivot-mask-requires : tie.Need-pivot-mask-requires
-pivot-mask-requires c κs = search needs
-
-highest-bit-requires : tie.Need-highest-bit-requires
-highest-bit-requires c κs = search needs
+default-pivot-requires : tie.Need-default-pivot-requires
+default-pivot-requires c κs = search needs
 
 with-pivot-requires : tie.Need-with-pivot-requires
 with-pivot-requires c κs = search needs
 
 returns : tie.Need-returns
-unfolding defaultPivot
 returns c =
-    let M = activeOf (c .before .before .before .args .pauli) in
-    let pivot = c .before .highest-bit .ensures ∙ ap highestOr (c .before .before .pivot-mask .ensures) in
-    c .with-pivot .ensures ∙ ap (λ (p : ℕ). answered (measurementRow M p false) (measurementOf M p)) pivot
+    let M = activeOf (c .before .before .args .pauli) in
+    c .with-pivot .ensures ∙ default-answered M 64 (mask-below M (2 ^ 64) (search needs) (search needs)) _ (c .before .default-pivot .ensures)
 
 pub from-pauli-spec : {M : Type 1} → statement M
 from-pauli-spec =
-    tie.close (tie.spec pivot-mask-requires highest-bit-requires with-pivot-requires returns)
+    tie.close (tie.spec default-pivot-requires with-pivot-requires returns)

@@ -17,7 +17,8 @@ returns c = rw (← c .before .rotation-row .ensures) (sym (answered-some (c .be
 rotation-kernel-requires : tie.Need-rotation-kernel-requires
 rotation-kernel-requires c κs =
     let a = c .before .before .args in
-    rotation-passed (activeOf (a .pauli)) (a .c) (a .s) (sym (c .before .rotation-row .ensures) ∙ c .if1 .left) .0 .phase
+    let fitting = rotation-passed (activeOf (a .pauli)) (a .c) (a .s) (sym (c .before .rotation-row .ensures) ∙ c .if1 .left) .0 in
+    (fitting .phase, fitting .xs)
 
 returns-2 : tie.Need-returns-2
 returns-2 c = ap accepted (c .rotation-kernel .ensures) ∙ sym (answered-none _ _ (sym (c .before .before .rotation-row .ensures) ∙ c .before .if1 .left))

@@ -2,9 +2,9 @@
 use mathlib.Core.Path.{ap, _∙_}
 use mathlib.Core.Bool.{Bool}
 use borrow.Author.Needs.{needs}
-use Rattle.answers.specs.Answer.{Answer}
+use Rattle.answers.specs.Answer.{Answer, isAccepted}
 use Rattle.runlaws.specs.Calls.{Ending}
-use Rattle.runlaws.specs.Ledger.{counted, isAccepted, finishes, served}
+use Rattle.runlaws.specs.Ledger.{counted, finishes, served}
 use Rattle.ledger.specs.Told.{ledgerOf}
 use Rattle.ledger.proofs.Ledger.serve.Statement.{statement}
 use Rattle.ledger.proofs.Ledger.serve.Tie as tie

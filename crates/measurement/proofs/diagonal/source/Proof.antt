@@ -21,8 +21,8 @@ module _ (p z e j w d : ℕ) (o : w ≡ openBit p j) (h : (e + overlap w z) % 2 
 not-one : (d : ℕ) → d < 2 → (d ≡ 1 → ⊥) → d ≡ 0
 not-one d h ne = omega arith
 
-open-bit-requires : tie.Need-open-bit-requires
-open-bit-requires c κs = search needs
+opened-at-requires : tie.Need-opened-at-requires
+opened-at-requires c κs = search needs
 
 differs-from-parity-requires : tie.Need-differs-from-parity-requires
 differs-from-parity-requires c κs = search needs
@@ -31,8 +31,8 @@ shl-result : tie.Need-shl-result
 shl-result c = search needs
 
 -- the bits without the pivot, which do not reach the word's end
-abbrev kept : (c : tie.After-open-bit) → c .open-bit .result ≡ openBit (c .before .args .pivot) (c .before .args .packed)
-kept c = opened (c .before .args .pivot) (c .before .args .packed) (c .before .pre .0) (c .before .pre .1) (c .open-bit .result) (c .open-bit .ensures)
+abbrev kept : (c : tie.After-opened-at) → c .opened-at .result ≡ openBit (c .before .args .pivot) (c .before .args .packed)
+kept c = opened (c .before .args .pivot) (c .before .args .packed) (c .before .pre .0) (c .before .pre .1) (c .opened-at .result) (c .opened-at .ensures)
 
 add-result : tie.Need-add-result
 add-result c =
@@ -43,7 +43,7 @@ add-result c =
 returns : tie.Need-returns
 returns c =
     let a = c .before .before .before .args in
-    let w : ℕ = c .before .before .open-bit .result in
+    let w : ℕ = c .before .before .opened-at .result in
     let odd = eqb-true ((bitOf (a .odd) + overlap w (a .zmask)) % 2) 1 (sym (c .before .differs-from-parity .ensures) ∙ c .if1 .taken) in
     ap (λ (m : ℕ). w + m) (one-shifted 64 (a .pivot) (omega arith) ∙ sym (one-mul (2 ^ a .pivot)))
     ∙ sym (read-at (a .pivot) (a .zmask) (bitOf (a .odd)) (a .packed) w 1 (kept (c .before .before)) odd)
@@ -51,7 +51,7 @@ returns c =
 returns-2 : tie.Need-returns-2
 returns-2 c =
     let a = c .before .before .before .args in
-    let w : ℕ = c .before .before .open-bit .result in
+    let w : ℕ = c .before .before .opened-at .result in
     let sum : ℕ = bitOf (a .odd) + overlap w (a .zmask) in
     let other = eqb-false (sum % 2) 1 (sym (c .before .differs-from-parity .ensures) ∙ c .if1 .left) in
     let even : sum % 2 ≡ 0 = not-one (sum % 2) (mod-two sum) other in
@@ -61,7 +61,7 @@ pub source-spec : {M : Type 1} → statement M
 source-spec =
     tie.close
     (tie.spec
-    open-bit-requires
+    opened-at-requires
     differs-from-parity-requires
     shl-result
     add-result

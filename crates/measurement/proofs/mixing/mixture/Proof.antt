@@ -27,15 +27,15 @@ module _ (K : MeasurementKernel) (v : Bool) (F : ℕ → Point) (j : ℕ) (d : K
       → a ≡ mixed binary (binary .h) w p q → a ≡ kernelRemaining K (bitOf v) F j
   made s w p q a es ew ep eq ea = rw (ea, ew, es, ep, eq) (sym (mixing-left K v F j d b o t odd))
 
-open-bit-requires : tie.Need-open-bit-requires
-open-bit-requires c κs = search needs
+opened-at-requires : tie.Need-opened-at-requires
+opened-at-requires c κs = let m = c .before .before .pre .0 in omega (arith, pivot-low m)
 
 -- the basis, which does not reach the word's end
-basis : (c : tie.After-open-bit) → let a = c .before .before .before .args in c .open-bit .result ≡ openBit (a .kernel .pivot) (a .j)
+basis : (c : tie.After-opened-at) → let a = c .before .before .before .args in c .opened-at .result ≡ openBit (a .kernel .pivot) (a .j)
 basis c =
     let start = c .before .before .before in
     let m = start .pre .0 in
-    opened (start .args .kernel .pivot) (start .args .j) (pivot-low m) (output-low m (start .args .j) (start .pre .2)) (c .open-bit .result) (c .open-bit .ensures)
+    opened (start .args .kernel .pivot) (start .args .j) (pivot-low m) (output-low m (start .args .j) (start .pre .2)) (c .opened-at .result) (c .opened-at .ensures)
 
 differs-from-parity-requires : tie.Need-differs-from-parity-requires
 differs-from-parity-requires c κs = search needs
@@ -62,7 +62,7 @@ read-requires-2 c κs =
     let found = c .before .before .before .before in
     let start = found .before .before .before in
     let a = start .args in
-    let high : bitXor (found .open-bit .result) (a .kernel .action .xmask) < 2 ^ (a .kernel .action .nqubits)
+    let high : bitXor (found .opened-at .result) (a .kernel .action .xmask) < 2 ^ (a .kernel .action .nqubits)
     = rw (basis found) (high-lt (mixing-pivoted (start .pre .0) (start .pre .1)) (a .j) (start .pre .2)) in
     omega (arith, high, start .pre .3 .re, start .pre .3 .im)
 
@@ -76,7 +76,7 @@ returns c =
     let start = found .before .before .before in
     let a = start .args in
     made (measurementMeant (a .kernel)) (a .branch) (point (stateOf (a .re .now) (a .im .now))) (a .j) (start .pre .1)
-    (found .open-bit .result) (basis found) (asked .differs-from-parity .result) (asked .differs-from-parity .ensures)
+    (found .opened-at .result) (basis found) (asked .differs-from-parity .result) (asked .differs-from-parity .ensures)
     (c .before .before .before .before .direction .result) _ _ _ _
     (c .before .before .before .before .direction .ensures) (c .before .before .before .scale .ensures) (c .before .before .read .ensures) (c .before .read2 .ensures) (c .mixed .ensures)
 
@@ -84,7 +84,7 @@ pub mixture-spec : {M : Type 1} → statement M
 mixture-spec =
     tie.close
     (tie.spec
-    open-bit-requires
+    opened-at-requires
     differs-from-parity-requires
     direction-requires
     scale-requires

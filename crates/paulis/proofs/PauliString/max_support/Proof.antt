@@ -4,7 +4,7 @@ use Rattle.answers.specs.Answer.Answer.{accepted}
 use Rattle.bitlaws.specs.Highest.{highest-wider}
 use Rattle.paulilaws.specs.Support.{maxSupport}
 use Rattle.paulis.specs.Calls.{supportCall}
-use Rattle.paulis.specs.Rows.{no-pauli, a-pauli, passed}
+use Rattle.paulis.specs.Rows.{no-pauli, a-pauli, admitted}
 use Rattle.paulis.specs.Strings.{pauliOf}
 use borrow.Author.Needs.{needs}
 use Rattle.paulis.proofs.PauliString.max_support.Statement.{statement}
@@ -27,9 +27,10 @@ unfolding supportCall maxSupport
 returns-2 c =
     let P = pauliOf (c .before .before .before .before .before .args .self) in
     let told = c .before .before .before .before .is-pauli .ensures in
-    let f = passed P told (c .before .before .before .if1 .left) in
+    let a = admitted P told (c .before .before .before .if1 .left) in
+    let f = a .fitting in
     c .highest-bit .ensures
-    ∙ ap accepted (highest-wider (P .n) 256 (bitOr (P .x) (P .z)) (or-lt (P .n) (P .x) (P .z) (f .xs) (f .zs)) (f .width))
+    ∙ ap accepted (highest-wider (P .n) 256 (bitOr (P .x) (P .z)) (or-lt (P .n) (P .x) (P .z) (f .xs) (f .zs)) (a .width))
     ∙ sym (a-pauli P (accepted (maxSupport P)) told (c .before .before .before .if1 .left))
 
 pub max-support-spec : {M : Type 1} → statement M

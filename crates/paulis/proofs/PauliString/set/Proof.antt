@@ -1,7 +1,7 @@
 use mathlib.Core.Path.{subst}
 use Rattle.answers.specs.Answer.Answer.{accepted}
 use Rattle.paulis.specs.Calls.{setCall}
-use Rattle.paulis.specs.Rows.{no-pauli-qubit, no-qubit, a-qubit, passed}
+use Rattle.paulis.specs.Rows.{no-pauli-qubit, no-qubit, a-qubit, admitted}
 use Rattle.paulilaws.specs.Letter.{withLetter}
 use Rattle.paulilaws.specs.Pauli.{Pauli}
 use Rattle.paulis.specs.Strings.{pauliOf, letterMeant, Made}
@@ -35,8 +35,8 @@ returns-2 c =
 
 with-requires : tie.Need-with-requires
 with-requires c κs =
-    let fitting = passed (pauliOf (c .before .before .before .before .args .self)) (c .before .before .before .is-pauli .ensures) (c .before .before .if1 .left) in
-    (omega (arith, fitting .width), fitting .phase)
+    let a = admitted (pauliOf (c .before .before .before .before .args .self)) (c .before .before .before .is-pauli .ensures) (c .before .before .if1 .left) in
+    (omega (arith, a .width), a .fitting .phase)
 
 done-requires : tie.Need-done-requires
 done-requires c κs = search needs

@@ -37,8 +37,8 @@ loop-holds c =
     let start = c .before .before in
     (one-shifted 64 (start .args .nqubits - 1) (omega arith), omega arith, sweeping-none (start .pre .2) (start .pre .3))
 
-open-bit-requires : tie.Need-open-bit-requires Inv-loop μ-loop
-open-bit-requires c κs = search needs
+opened-at-requires : tie.Need-opened-at-requires Inv-loop μ-loop
+opened-at-requires c κs = let pre = c .before .before .before .before .pre in omega (arith, pre .0 .inside, pre .1)
 
 signed-requires : tie.Need-signed-requires Inv-loop μ-loop
 signed-requires c κs = search needs
@@ -51,7 +51,7 @@ rotate-pair-requires c κs =
     let opened = c .before .before .before .before in
     let at-loop = opened .before .before in
     let pre = at-loop .before .before .before .pre in
-    turn-inside (pre .0) (pre .1) (omega arith) (opened .open-bit .ensures) (at-loop .loop .inv .2)
+    turn-inside (pre .0) (pre .1) (omega arith) (opened .opened-at .ensures) (at-loop .loop .inv .2)
 
 add-k : tie.Need-add-k Inv-loop μ-loop
 add-k c = omega arith
@@ -70,12 +70,12 @@ loop-again c =
     let a = start .args in
     let inv = at-loop .loop .inv in
     let S = stateOf (at-loop .loop .re) (at-loop .loop .im) in
-    let left = opened .open-bit .result in
+    let left = opened .opened-at .result in
     let right = bitXor left (a .xmask) in
     let turned : Point → Point → Point → Point = mixed binary (a .c) in (
       inv .0,
       omega arith,
-      turn-more (start .pre .0) (start .pre .1) (omega arith) (opened .open-bit .ensures)
+      turn-more (start .pre .0) (start .pre .1) (omega arith) (opened .opened-at .ensures)
           (λ (o : ℕ). turned (scale binary (direction binary (bitOf (a .sign) + overlap o (a .zmask))) (complexOf (a .m)))) (inv .2) _ _ _
           (called .rotate-pair .ensures)
           (ap (λ (u : Point). turned u (point S left) (point S right)) (to-right .before .signed .ensures))
@@ -100,7 +100,7 @@ rotate-pairs-spec =
     sub-half
     shl-half
     loop-holds
-    open-bit-requires
+    opened-at-requires
     signed-requires
     signed-requires-2
     rotate-pair-requires

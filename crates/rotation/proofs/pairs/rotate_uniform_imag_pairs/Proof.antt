@@ -38,15 +38,15 @@ loop-holds c =
     let start = c .before .before .before in
     (one-shifted 64 (start .args .nqubits - 1) (omega arith), omega arith, sweeping-none (start .pre .2) (start .pre .3))
 
-open-bit-requires : tie.Need-open-bit-requires Inv-loop μ-loop
-open-bit-requires c κs = search needs
+opened-at-requires : tie.Need-opened-at-requires Inv-loop μ-loop
+opened-at-requires c κs = let pre = c .before .before .before .before .before .pre in omega (arith, pre .0 .inside, pre .1)
 
 rotate-imag-pair-requires : tie.Need-rotate-imag-pair-requires Inv-loop μ-loop
 rotate-imag-pair-requires c κs =
     let opened = c .before .before in
     let at-loop = opened .before .before in
     let pre = at-loop .before .before .before .before .pre in
-    turn-inside (pre .0) (pre .1) (omega arith) (opened .open-bit .ensures) (at-loop .loop .inv .2)
+    turn-inside (pre .0) (pre .1) (omega arith) (opened .opened-at .ensures) (at-loop .loop .inv .2)
 
 add-k : tie.Need-add-k Inv-loop μ-loop
 add-k c = omega arith
@@ -64,7 +64,7 @@ loop-again c =
     let a = start .args in (
       inv .0,
       omega arith,
-      turn-more (start .pre .0) (start .pre .1) (omega arith) (opened .open-bit .ensures)
+      turn-more (start .pre .0) (start .pre .1) (omega arith) (opened .opened-at .ensures)
           (λ o. rotatedWith binary (a .c) (complexOf (at-loop .before .negated .result))) (inv .2) _ _ _ (called .rotate-imag-pair .ensures) refl refl,
     )
 
@@ -94,7 +94,7 @@ rotate-uniform-imag-pairs-spec =
     sub-half
     shl-half
     loop-holds
-    open-bit-requires
+    opened-at-requires
     rotate-imag-pair-requires
     add-k
     loop-less

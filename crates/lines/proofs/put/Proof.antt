@@ -1,0 +1,41 @@
+-- `put` stores the text from `at` on, by `bytes::copy` on what stands from there. Assumes nothing.
+use mathlib.Core.Path.{refl, ap, _∙_}
+use mathlib.Core.List.{List, _++_}
+use Prim.Native.Nat.{ℕ, _+_, _-_}
+use lib.ListN.{length, take, drop}
+use Rattle.lines.specs.Pieces.{sets-copied}
+use borrow.Author.Needs.{needs}
+use Rattle.lines.proofs.put.Statement.{statement}
+use Rattle.lines.proofs.put.Tie as tie
+
+sub-copy : tie.Need-sub-copy
+sub-copy c = search needs
+
+part-copy-start : tie.Need-part-copy-start
+part-copy-start c = search needs
+
+part-copy-end : tie.Need-part-copy-end
+part-copy-end c = search needs
+
+copy-requires : tie.Need-copy-requires
+copy-requires c κs = search needs
+
+add-result : tie.Need-add-result
+add-result c = search needs
+
+same-length : tie.Need-same-length
+same-length c = search needs
+
+returns : tie.Need-returns
+returns c =
+    let s = c .before .before .before .before .before .before in
+    let copied = c .before .before .copy in (
+      ap (λ (n : ℕ). s .args .at + n) (copied .ensures .0),
+      ap (λ (l : List ℕ). take (s .args .at) (s .args .out .now) ++ (l ++ drop (length (s .args .out .now) - s .args .at) (drop (s .args .at) (s .args .out .now)))) (copied .ensures .1)
+          ∙ sets-copied (s .args .out .now) (s .args .at) (length (s .args .out .now) - s .args .at) (s .args .text .now) refl (s .pre),
+    )
+
+pub put-spec : {M : Type 1} → statement M
+put-spec =
+    tie.close
+    (tie.spec sub-copy part-copy-start part-copy-end copy-requires add-result same-length returns)

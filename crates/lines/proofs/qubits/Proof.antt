@@ -1,0 +1,26 @@
+-- `qubits`: the line as it stands. Assumes nothing.
+use Rattle.lines.specs.Lines.{widthLine}
+use borrow.Author.Needs.{needs}
+use Rattle.lines.proofs.qubits.Statement.{statement}
+use Rattle.lines.proofs.qubits.Tie as tie
+
+slice-aggregate-line : tie.Need-slice-aggregate-line
+slice-aggregate-line c = search needs
+
+slice-aggregate-line-2 : tie.Need-slice-aggregate-line-2
+slice-aggregate-line-2 c = search needs
+
+line-requires : tie.Need-line-requires
+line-requires c κs = search needs
+
+same-length : tie.Need-same-length
+same-length c = search needs
+
+returns : tie.Need-returns
+unfolding widthLine
+returns c = c .before .before .line .ensures
+
+pub qubits-spec : {M : Type 1} → statement M
+qubits-spec =
+    tie.close
+    (tie.spec slice-aggregate-line slice-aggregate-line-2 line-requires same-length returns)

@@ -1,0 +1,5 @@
+pub mod Lines
+pub mod Calls
+pub mod Lengths
+pub mod Newlines
+pub mod Pieces

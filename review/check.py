@@ -22,7 +22,7 @@ TESTS = {"pauli_calls", "kernel_calls", "run_calls"}  # text in, text out: libra
 RESULTS = set("""
 product-acts anticommute commute identity-product product-identity product-assoc hermitian-square sign-phase raised-acts dropped-acts
 support-some support-none letter-set letter-kept coefficient-kept exact round-trip read-text conserved running-kept carrying-kept frame
-run-exact book starred printed constants survey-most survey-most-scratch source-only open-drop seen-tells read-tells qubit-tells
+run-exact book starred printed constants survey-most survey-most-scratch source-only open-drop seen-tells seen-once read-tells qubit-tells
 default-top listed-run listed-refusal listed-count fresh-first fresh-others
 """.split())
 found = []

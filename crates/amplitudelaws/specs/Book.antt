@@ -16,6 +16,7 @@ pub mod Paired
 pub mod Turning
 pub mod Appending
 pub mod Standing
+pub mod Stands
 pub mod Remaining
 pub mod Projector
 pub mod Group

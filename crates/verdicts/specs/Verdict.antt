@@ -44,3 +44,8 @@ seen-tells (refusedAt n at) (accepted q) s t = absurd (omega (arith, kinds (s .v
 seen-tells (refusedAt n at) (refused m) s t = absurd (omega (arith, kinds (s .verdict) (t .verdict)))
 seen-tells (refusedAt n at) (refusedAt m bt) s t =
     rw (numbers (s .verdict) (t .verdict), places (s .verdict) (t .verdict))
+
+-- ---- and an answer is seen in one way only: nothing beside a refusal is free
+
+pub seen-once : {A : Type 0} {v w : Verdict} {a b other : A} {x : Answer A} → Seen v a other x → Seen w b other x → (v ≡ w) × (a ≡ b)
+seen-once s t = (s .verdict ∙ sym (t .verdict), s .value ∙ sym (t .value))

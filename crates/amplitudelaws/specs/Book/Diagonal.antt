@@ -41,7 +41,7 @@ module _ {R : Type 0} (𝓡 : Ring R) (h : R) (M : Pauli) (fitting : Fitting M) 
   abbrev e : ℕ
   e = minus (M .k) + v + overlap b (M .z)
 
-  eigenvalue : sgn 𝓡 v *ᶜ act 𝓡 M F b ≡ sgn 𝓡 e *ᶜ F b
+  pub eigenvalue : sgn 𝓡 v *ᶜ act 𝓡 M F b ≡ sgn 𝓡 e *ᶜ F b
   unfolding act
   eigenvalue =
       let same : bitXor b (M .x) ≡ b = ap (bitXor b) flat ∙ xor-zero-r b in

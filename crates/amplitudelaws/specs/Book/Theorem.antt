@@ -20,14 +20,15 @@ use Rattle.amplitudelaws.specs.Step.Step.{rotation, promotion, projectio
 use Rattle.amplitudelaws.specs.Acting.{acts, acted, Measurable, Proper, Propers}
 use Rattle.amplitudelaws.specs.Book.Ring.{Ring}
 use Rattle.amplitudelaws.specs.Book.Complex.{exact, complex, real, ipow, sgn}
-use Rattle.amplitudelaws.specs.Book.Matrix.{identity, multiple, applied, joined, adjoint, applied-same, applied-identity, applied-joined}
-use Rattle.amplitudelaws.specs.Book.Operators.{spelled, pauli, turnedKet, squaredLength, turning, projector, eigenvectors, operator, operators}
+use Rattle.amplitudelaws.specs.Book.Matrix.{identity, ket, multiple, applied, joined, adjoint, applied-same, applied-identity, applied-joined}
+use Rattle.amplitudelaws.specs.Book.Operators.{standing, spelled, pauli, turnedKet, squaredLength, turning, projector, eigenvectors, operator, operators}
 use Rattle.amplitudelaws.specs.Book.Spelled.{pauli-spelled, pauli-signed, pauli-set}
 use Rattle.amplitudelaws.specs.Book.Product.{product-is-book}
 use Rattle.amplitudelaws.specs.Book.Projector.{pauli-adjoint}
 use Rattle.amplitudelaws.specs.Book.Group.{identity-is-book, raised-is-book, acts-is-book, square-is-book, exchange, anticommuting, adjoint-hermitian}
 use Rattle.amplitudelaws.specs.Book.Turning.{corrected-is-book, rotated-is-book, turnings-add}
 use Rattle.amplitudelaws.specs.Book.Appending.{promoted-appends}
+use Rattle.amplitudelaws.specs.Book.Stands.{standing-eigen}
 use Rattle.amplitudelaws.specs.Book.Eigenspace.{projected-is-book, orthonormal, complete}
 use Rattle.amplitudelaws.specs.Book.Length.{probability-is-book}
 
@@ -73,6 +74,9 @@ pub record Book {R : Type 0} (𝓡 : Ring R) (h : R) : Type 0 where
   -- a list of steps, the empty one too, applies the product of their operators
   pub run : (n : ℕ) (ts : List (Step R)) → Propers n ts → (F : ℕ → Amplitude R) (b : ℕ) → b < 2 ^ lastWidth n ts
       → acted (exact 𝓡 h) n ts F b ≡ applied 𝓡 (2 ^ n) (operators 𝓡 h n ts) F b
+  -- where M is diagonal the basis state that stands for a coordinate is one that M takes times (-1)^v
+  pub stands : (M : Pauli) (p v : ℕ) → Measurable M p → M .x ≡ 0 → (j a : ℕ) → a < 2 ^ M .n
+      → applied 𝓡 (2 ^ M .n) (pauli 𝓡 M) (ket 𝓡 (standing true M p v j)) a ≡ complex 𝓡 .mul (sgn 𝓡 v) (ket 𝓡 (standing true M p v j) a)
   -- the coordinates in which a projection's result is read belong to an orthonormal basis of all that the projector leaves
   pub orthonormal : (M : Pauli) (p v : ℕ) → Measurable M p → (a b : ℕ) → a < 2 ^ (M .n - 1) → b < 2 ^ (M .n - 1)
       → joined 𝓡 (2 ^ M .n) (adjoint 𝓡 (eigenvectors 𝓡 h M p v)) (eigenvectors 𝓡 h M p v) a b ≡ identity 𝓡 a b
@@ -123,6 +127,7 @@ module _ {R : Type 0} (𝓡 : Ring R) (h : R) (half : 𝓡 .add (𝓡 .mul h h) 
     kets = acts-is-book 𝓡;
     step = step-is-book;
     run = run-is-book;
+    stands = standing-eigen 𝓡;
     orthonormal = λ M p v ok a b. orthonormal 𝓡 h half M p v ok a b;
     complete = λ M p v ok a b. complete 𝓡 h half M p v ok a b;
     probability = λ M p v ok F. probability-is-book 𝓡 h half M p ok v F;

@@ -3,10 +3,10 @@
 #
 #   record.sh SOURCES
 #
-# SOURCES is the folder that holds src/*.rs as published. The files stdin and stdout are written in
-# crates/pauli_replay and crates/kernel_replay (what the Rust answers, its kernels by their scalar loops), in
-# crates/run_limits and crates/frame_replay (what vectors/runs.py answers), and stdout in crates/kernel_limits
-# (what vectors/model.py answers to the stdin there). They come out the same each time.
+# SOURCES is the folder that holds src/*.rs as published. The files stdin and stdout of crates/pauli_vectors and crates/kernel_vectors have a
+# line "# ---- recorded": what stands below it is written anew (what the Rust answers, its kernels by their scalar loops); above it the calls
+# stay, and the kernels' answers are those of vectors/model.py. crates/run_vectors has what vectors/runs.py answers.
+# They come out the same each time.
 #
 # Needs x86-64, cargo with edition 2024, two of Debian's packages (prepare.sh) and Python.
 set -eu
@@ -19,11 +19,26 @@ published "$sources"
 build --no-default-features --bin record_paulis --bin record_kernels
 
 crates=$root/crates
-"$work/target/release/record_paulis" "$crates/pauli_replay"
-TICIT_SIMD=scalar "$work/target/release/record_kernels" "$crates/kernel_replay"
-answers=$(mktemp)
-trap 'rm -f "$answers"' EXIT
+made=$(mktemp -d)
+trap 'rm -rf "$made"' EXIT
 export PYTHONDONTWRITEBYTECODE=1 # nothing beside the models
-python3 "$root/vectors/model.py" < "$crates/kernel_limits/stdin" > "$answers"
-cp "$answers" "$crates/kernel_limits/stdout"
+
+# The part of a file above its line of what was recorded.
+above() {
+    sed '/^# ---- recorded/,$d' "$1"
+}
+
+# FOLDER: its recorded part from $made; the part above it from its own stdin and from what standard input has for stdout.
+renew() {
+    line='# ---- recorded: what the Rust answered'
+    { cat; echo "$line"; cat "$made/stdout"; } > "$made/answers"
+    { above "$1/stdin"; echo "$line"; cat "$made/stdin"; } > "$made/calls"
+    cp "$made/calls" "$1/stdin"
+    cp "$made/answers" "$1/stdout"
+}
+
+"$work/target/release/record_paulis" "$made"
+above "$crates/pauli_vectors/stdout" | renew "$crates/pauli_vectors"
+TICIT_SIMD=scalar "$work/target/release/record_kernels" "$made"
+above "$crates/kernel_vectors/stdin" | python3 "$root/vectors/model.py" | renew "$crates/kernel_vectors"
 python3 "$root/vectors/runs.py" write "$crates"

@@ -22,8 +22,8 @@ TESTS = {"pauli_calls", "kernel_calls", "run_calls"}  # text in, text out: libra
 RESULTS = set("""
 product-acts anticommute commute identity-product product-identity product-assoc hermitian-square sign-phase raised-acts dropped-acts
 support-some support-none letter-set letter-kept coefficient-kept exact round-trip read-text conserved running-kept carrying-kept frame
-run-exact book starred printed constants survey-most survey-most-scratch source-only open-drop seen-tells seen-once read-tells qubit-tells
-default-top listed-run listed-refusal listed-count fresh-first fresh-others
+run-exact book starred printed constants survey-most survey-most-scratch source-only open-drop seen-tells seen-once read-tells past-tells qubit-tells
+default-top listed-run listed-refusal listed-count fresh-first fresh-others run-pieces pieces-run pauli-same pauli-small correction-piece
 """.split())
 found = []
 
@@ -42,6 +42,26 @@ def short(path):
 FUNCTION = re.compile(r"^ *pub (?:extern \"C\" )?fn (\w+)\s*(?:<[^>]*>)?\((.*?)\)\s*(?:->\s*[^\n{]+?)?\s*(?:\{\n|\n(.*?)^ *\{\n)", re.S | re.M)
 
 
+# `state re im` and `memory re im scratch_re scratch_im` name what lent slices hold, by a `let` or where they stand.
+HELD = r"(?:state|memory)((?: «?\w+»?)+)"
+# Of what they hold at the exit a clause names all, or a part.
+PARTS = {"state": slice(0, 2), "scratch": slice(2, 4), "re": slice(0, 1), "im": slice(1, 2)}
+
+
+def promised(clauses):
+    """The lent buffers that a clause has at their exit."""
+    kept = set(re.findall(r"«?(\w+)»? \.exit", re.sub(rf"{HELD} \.exit", "", clauses)))
+    held = [(re.escape(name), names) for name, names in re.findall(rf"let (\w+) = {HELD} in", clauses)]
+    held += [(r"(?:state|memory)" + re.escape(names), names) for names in re.findall(rf"{HELD} \.exit", clauses)]
+    for name, names in held:
+        for parts in re.findall(rf"(?<!\w){name} \.exit((?: \.\w+)*)", clauses):
+            buffers = re.findall(r"\w+", names)
+            for part in re.findall(r"\w+", parts):
+                buffers = buffers[PARTS[part]] if part in PARTS else buffers
+            kept |= set(buffers)
+    return kept
+
+
 def open_calls():
     calls = 0
     for path in sorted(CRATES.glob("*/src/*.rt")):
@@ -54,8 +74,9 @@ def open_calls():
                 found.append(f"requires: {here}")
             if "ensures" not in clauses:
                 found.append(f"no ensures: {here}")
+            kept = promised(clauses)
             for lent in re.findall(r"(\w+): &mut", parameters):
-                if not re.search(rf"«?{lent}»? \.exit", clauses):
+                if lent not in kept:
                     found.append(f"lent buffer not promised: {here}: {lent}")
     return calls
 
@@ -150,7 +171,8 @@ def public_names():
         source = text(path)
         for name in declared(source):
             count += 1
-            own = [line for line in source.split("\n") if not re.match(rf" *(?:unfoldable |abbrev )?(?:pub )?(?:record |data )?{re.escape(name)}(?![\w-])", line)]
+            declares = re.compile(rf" *(?:unfoldable |abbrev )?(?:pub )?(?:record |data )?{re.escape(name)}(?![\w-]).* [:=](?: |$)")
+            own = [line for line in source.split("\n") if not declares.match(line)]
             if mentions[name] < 2 and name not in RESULTS and name not in WORD.findall("\n".join(own)):
                 found.append(f"public name that no other file uses: {short(path)}: {name}")
     return count

@@ -2,8 +2,8 @@
 """A second opinion on the calls on runs, and the lines of the programs that test them.
 
     runs.py answers < stdin > stdout     answers to calls, a line each
-    runs.py write CRATES                 stdin and stdout of CRATES/run_limits and CRATES/frame_replay
-    runs.py fuzz PROGRAM SEED COUNT      COUNT random calls asked of PROGRAM (target/bin/run_limits) as well:
+    runs.py write CRATES                 stdin and stdout of CRATES/run_vectors
+    runs.py fuzz PROGRAM SEED COUNT      COUNT random calls asked of PROGRAM (target/bin/run_vectors) as well:
                                          the first line that differs, or how many answers of each kind agree
     runs.py bench < run > text           what the program `bench` prints of a run
     runs.py listings PROGRAM SEED COUNT  COUNT random runs given to PROGRAM (target/bin/bench) as well, and compared so
@@ -26,6 +26,9 @@ between; `3*` before a piece stands for three of it.
                                     entries 7.5
     carry RUN width k x z length    the end Pauli, where and how the output differs from the run, and whether what lies
                                     past the run is kept (on a refusal, all); it is lent as so many bytes 0xee
+    passing TAG Q P flag pivot | floats
+                                    the Pauli Q past the step of that tag with the Pauli P, each Pauli as width k x z:
+                                    the step that it leaves behind, and the Pauli then
     both RUN width k x z | re | im  demand 3: for each basis the amplitude of (Pauli, run) and of (carried run,
                                     end Pauli), then `same`, `nan` (alike but for NaNs on both sides) or `differ`
 
@@ -201,6 +204,46 @@ def product(a, b):
     return raised(Pauli(a.n, a.k, a.x ^ b.x, a.z ^ b.z), b.k + 2 * parity(a.z & b.x))
 
 
+def passed(pauli, step):
+    """The step that Q leaves behind it, and Q then."""
+    kind, *rest = step
+    if kind == "promotion":
+        # Q gains identity on the new qubit.
+        return step, Pauli(pauli.n + 1, pauli.k, pauli.x, pauli.z)
+    flips = anticommute(pauli, rest[0])
+    if kind == "rotation":
+        # Sign flips when Q and P anticommute; Q stays.
+        other, sign, c, s = rest
+        return (kind, other, sign ^ flips, c, s), pauli
+    if kind == "correction":
+        # Q's phase rises by 2 when they anticommute.
+        return step, raised(pauli, 2 * flips)
+    # Branch flips when Q and M anticommute; call the new branch v. If Q has, at the
+    # pivot, an X part (M.x not 0) or a Z part (M.x = 0), Q becomes Q·M with phase
+    # raised by 2v. Then the pivot's bit is dropped from both masks.
+    measured, pivot, branch, invnorm = rest
+    new = branch ^ flips
+    if (pauli.x if measured.x else pauli.z) >> pivot & 1:
+        pauli = raised(product(pauli, measured), 2 * new)
+    x, z = model.drop_bit(pivot, pauli.x), model.drop_bit(pivot, pauli.z)
+    return (kind, measured, pivot, new, invnorm), Pauli(pauli.n - 1, pauli.k, x, z)
+
+
+def past(pauli, step):
+    """Any Pauli past any step: 3 where one of the two has no Pauli, or none is behind a promotion
+    (a width over 256); 4 where they are not on the same qubits; 10 where the pivot is none of them."""
+    kind, *rest = step
+    refuse(3, not pauli.fits())
+    if kind == "promotion":
+        refuse(3, pauli.n + 1 > 256)
+    else:
+        refuse(3, not rest[0].fits())
+        refuse(4, pauli.n != rest[0].n)
+    if kind == "projection":
+        refuse(10, rest[1] >= pauli.n)
+    return passed(pauli, step)
+
+
 def carry(run, pauli, room):
     """The carried run, of equal length, and the end Pauli; `room` is the output's length."""
     width, steps = walk(run)
@@ -208,28 +251,13 @@ def carry(run, pauli, room):
     refuse(4, pauli.n != width)
     refuse(16, room < len(run))
     out = bytearray(run)
-    for at, (kind, *rest) in steps:
-        flips = anticommute(pauli, rest[0]) if kind != "promotion" else 0
-        if kind == "rotation":
-            # Sign flips when Q and P anticommute; Q stays.
-            out[at + 3 + 17] ^= flips
-        elif kind == "promotion":
-            # Q gains identity on the new qubit.
-            pauli = Pauli(pauli.n + 1, pauli.k, pauli.x, pauli.z)
-        elif kind == "correction":
-            # Q's phase rises by 2 when they anticommute.
-            pauli = raised(pauli, 2 * flips)
-        else:
-            # Branch flips when Q and M anticommute; call the new branch v. If Q has, at the
-            # pivot, an X part (M.x not 0) or a Z part (M.x = 0), Q becomes Q·M with phase
-            # raised by 2v. Then the pivot's bit is dropped from both masks.
-            measured, pivot, branch, _ = rest
-            out[at + 3 + 18] ^= flips
-            new = branch ^ flips
-            if (pauli.x if measured.x else pauli.z) >> pivot & 1:
-                pauli = raised(product(pauli, measured), 2 * new)
-            x, z = model.drop_bit(pivot, pauli.x), model.drop_bit(pivot, pauli.z)
-            pauli = Pauli(pauli.n - 1, pauli.k, x, z)
+    for at, step in steps:
+        left, pauli = passed(pauli, step)
+        # A rotation's sign stands behind its Pauli's 17 bytes, a projection's branch behind the pivot too.
+        if left[0] == "rotation":
+            out[at + 3 + 17] = left[2]
+        elif left[0] == "projection":
+            out[at + 3 + 18] = left[3]
     return bytes(out), pauli
 
 
@@ -308,13 +336,30 @@ def told_start(run, limit):
     return "none" if width is None else str(width)
 
 
-def told_read(run, at, width, limit):
-    step, *cursor = read(run, at, width, limit)
+def told_step(step):
     words = []
-    for part in step or ["end"]:
+    for part in step:
         pauli = isinstance(part, Pauli)
         words.append(part.shown() if pauli else shown(part) if isinstance(part, float) else str(part))
-    return " ".join([*words, *map(str, cursor)])
+    return " ".join(words)
+
+
+def told_read(run, at, width, limit):
+    step, *cursor = read(run, at, width, limit)
+    return " ".join([told_step(step or ["end"]), *map(str, cursor)])
+
+
+def told_past(tag, words, floats):
+    """Of its numbers a step takes those that it has."""
+    pauli, (flag, pivot) = Pauli(*words[4:8]), words[8:]
+    made = {
+        2: ("rotation", pauli, flag, *floats),
+        3: ("promotion", *floats),
+        4: ("projection", pauli, pivot, flag, floats[0]),
+        5: ("correction", pauli),
+    }
+    left, behind = past(Pauli(*words[:4]), made[tag])
+    return f"{told_step(left)} {behind.shown()}"
 
 
 def told_output(run, out):
@@ -362,6 +407,8 @@ def answer(line):
             return told_carry(run, Pauli(*words[:4]), words[4])
         if name == "both":
             return told_both(run, Pauli(*words), *buffers)
+        if name == "passing":
+            return told_past(run[0], words, *buffers)
         assert name == "run"
         buffers += [[past] * size for past, size in zip((7.0, 7.5), words)]
         outcome = "finished {} {}".format(*run_whole(run, *buffers))
@@ -429,6 +476,12 @@ def run_line(text, re, im, m=0, n=0):
 
 def carry_line(text, width, p, room):
     return f"carry {text} {width} {p[0]} {p[1]:#x} {p[2]:#x} {room}"
+
+
+def pass_line(q, tag, p=(0, 0, 0, 0), flag=0, pivot=0, floats_of=(0.6, 0.8)):
+    """Paulis with their widths."""
+    words = " ".join(f"{n} {k} {x:#x} {z:#x}" for n, k, x, z in (q, p))
+    return f"passing {tag:02x} {words} {flag} {pivot} |{floats(floats_of)}"
 
 
 def both_line(text, width, p, re, im):
@@ -945,11 +998,72 @@ def carrying(lines):
         lines.ask(carry_line(spelled(starting(1), step, END), 1, q, 44), told)
 
 
+def passes(lines):
+    lines.say("A Pauli past one step: 01's X past a Z rotation; Z, X, Y past an X projection; X past a Z correction.")
+    one = (1, *X)
+    lines.ask(pass_line(one, 2, (1, *Z)), f"rotation 1 0 0x0 0x1 1 {shown(0.6)} {shown(0.8)} 1 0 0x1 0x0")
+    for q, branch, phase in ((Z, 0, 0), (X, 1, 2), (Y, 0, 1)):
+        told = f"projection 1 0 0x1 0x0 0 1 {shown(1.0)} 0 {phase} 0x0 0x0"
+        lines.ask(pass_line((1, *q), 4, one, branch, 0, (1.0, 0.0)), told)
+    lines.ask(pass_line(one, 5, (1, *Z)), "correction 1 0 0x0 0x1 1 2 0x1 0x0")
+    lines.ask(pass_line((1, *Y), 3), f"promotion {shown(0.6)} {shown(0.8)} 2 1 0x1 0x1")
+    lines.say("Each Pauli of one qubit and each phase past each kind of step, with either flag.")
+    for place in range(16):
+        q = (1, place % 4, place >> 2 & 1, place >> 3)
+        for p in (I, X, Y, Z):
+            for tag, flag in ((2, 0), (2, 1), (4, 0), (4, 1), (5, 0)):
+                lines.ask(pass_line(q, tag, (1, *p), flag))
+        lines.ask(pass_line(q, 3))
+    lines.say("No Pauli: the one that is carried, the step's, both. 3 before 4 and 10.")
+    none = [(2, *p) for p in ((4, 0, 0), (255, 0, 0), (0, 4, 0), (0, 0, 4), (0, 1 << 63, 0))]
+    none += [(257, *I), (2**64 - 1, *I), (0, 0, 0, 1), (63, 0, 1 << 63, 0)]
+    for bad in none:
+        for tag in (2, 4, 5):
+            for other in ((2, *I), bad):
+                lines.ask(pass_line(bad, tag, other, 0, 300), "refused 3")
+                lines.ask(pass_line(other, tag, bad, 0, 300), "refused 3")
+        lines.ask(pass_line(bad, 3), "refused 3")
+    lines.say("On other qubits: 4, before 10.")
+    for a, b in ((0, 1), (1, 0), (2, 3), (64, 65), (256, 255)):
+        for tag in (2, 4, 5):
+            for pivot in (0, 300):
+                lines.ask(pass_line((a, *I), tag, (b, *I), 0, pivot), "refused 4")
+    lines.say("A pivot at the width and past it, and the highest that there is: 10 from the width on, at no qubit too.")
+    for n in (0, 1, 2, 64, 65, 256):
+        for pivot in (n, n + 1, 300, 2**64 - 1):
+            lines.ask(pass_line((n, *I), 4, (n, *I), 1, pivot), "refused 10")
+        if n:
+            top = (1 << n - 1) % 2**64
+            for q, p in (((0, top, 0), (0, 0, top)), ((3, 0, top), (0, top, 0)), ((1, top, top), (0, 0, 0))):
+                lines.ask(pass_line((n, *q), 4, (n, *p), 0, n - 1))
+    lines.say("A promotion up to 256 qubits; there is no Pauli on 257.")
+    for n in (0, 1, 63, 64, 254, 255):
+        lines.ask(pass_line((n, 3, 0, 0), 3), f"promotion {shown(0.6)} {shown(0.8)} {n + 1} 3 0x0 0x0")
+    for n in (256, 257, 2**64 - 1):
+        lines.ask(pass_line((n, 3, 0, 0), 3), "refused 3")
+    lines.say("On no qubit; all 64 bits of both masks; a pivot past the masks.")
+    for k in range(4):
+        lines.ask(pass_line((0, k, 0, 0), 2, (0, 2, 0, 0), 1))
+        lines.ask(pass_line((0, k, 0, 0), 5, (0, 1, 0, 0)), f"correction 0 1 0x0 0x0 0 {k} 0x0 0x0")
+    full = 2**64 - 1
+    for n in (64, 65, 256):
+        for x, z in ((full, full), (full, 0), (0, full), (full - 1, 1), (1 << 63, 1)):
+            for tag in (2, 4, 5):
+                lines.ask(pass_line((n, 1, x, z), tag, (n, 0, z, full), 1, 63))
+    for pivot in (64, 100, 255):
+        lines.ask(pass_line((256, 1, full, full), 4, (256, 0, full, 0), 1, pivot))
+    lines.say("Steps that no run has: their own kernels' rows are not looked at.")
+    lines.ask(pass_line(one, 2, (1, 1, 0, 1), 0, 0, (NAN, INFINITY)))
+    lines.ask(pass_line(one, 4, (1, 1, 1, 0), 0, 0, (NAN, 0.0)))
+    lines.ask(pass_line((2, 0, 3, 3), 4, (2, 0, 1, 0), 1, 1, (INFINITY, 0.0)))
+    lines.ask(pass_line((62, 0, 1, 0), 5, (62, 0, 0, 1)), "correction 62 0 0x0 0x1 62 2 0x1 0x0")
+
+
 def limits():
     lines = Lines()
     for section in (
         fields, starts, reads, accepted, single_rows, rows_together, wrong_fields, wrong_places,
-        two_fields, cuts, lengths, room, values, carrying,
+        two_fields, cuts, lengths, room, values, carrying, passes,
     ):
         section(lines)
     return lines.lines
@@ -1108,8 +1222,10 @@ def random_line(rng):
     n = rng.choice([0, 1, 1, 2, 2, 2, 3, 3, 4, 11, 12])
     widest = max(n, rng.choice([2, 3, 4, 5, 7, 12]))
     text, run = random_text(rng, n, widest)
-    shares = {"check": 20, "run": 16, "carry": 16, "both": 8, "step": 8, "field": 4, "start": 4, "cuts": 1}
+    shares = {"check": 20, "run": 16, "carry": 16, "passing": 8, "both": 8, "step": 8, "field": 4, "start": 4, "cuts": 1}
     call = rng.choices(list(shares), list(shares.values()))[0]
+    if call == "passing":
+        return random_pass(rng)
     if call in ("check", "cuts"):
         return f"{call} {text}"
     if call in ("field", "step", "start"):
@@ -1132,6 +1248,19 @@ def random_line(rng):
         return carry_line(text, width, q, out)
     first = min(start(run, WIDEST) or 0, 7)  # A wider run has no room in the program's buffers.
     return both_line(text, width, q, *random_state(rng, first, rng.randrange(5) > 0))
+
+
+def random_pass(rng):
+    n = rng.choice([0, 1, 2, 3, 12, 63, 64, 65, 255, 256])
+    masks = 2 ** min(n, 64)
+    q, p = ([n, rng.randrange(4), rng.randrange(masks), rng.randrange(masks)] for _ in (0, 1))
+    if rng.randrange(4) == 0:
+        rng.choice([q, p])[rng.randrange(4)] = rng.choice([0, 1, 2, 4, 64, 255, 256, 257, 2**64 - 1])
+    if rng.randrange(3) == 0:
+        p[2] = 0
+    pivot = rng.choice([n, n + 1, 2**64 - 1]) if n == 0 or rng.randrange(8) == 0 else rng.randrange(n)
+    floats_of = [random_float(rng, False), random_float(rng)]
+    return pass_line(q, rng.randrange(2, 6), p, rng.randrange(2), pivot, floats_of)
 
 
 def kind_of(asked, told):
@@ -1207,10 +1336,10 @@ def listings(program, seed, count):
 
 
 def write(crates):
-    for name, lines in (("run_limits", limits()), ("frame_replay", replay())):
-        for file, texts in (("stdin", lines), ("stdout", map(answer, lines))):
-            with open(f"{crates}/{name}/{file}", "w") as out:
-                out.write("".join(text + "\n" for text in texts))
+    lines = [*limits(), "# ---- both ways of demand 3", *replay()]
+    for file, texts in (("stdin", lines), ("stdout", map(answer, lines))):
+        with open(f"{crates}/run_vectors/{file}", "w") as out:
+            out.write("".join(text + "\n" for text in texts))
 
 
 if __name__ == "__main__":

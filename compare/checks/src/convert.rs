@@ -43,7 +43,8 @@ pub fn read(found: Found) -> Read {
     }
 }
 
-fn field(step: Option<Step>) -> Field {
+/// A step, or the end field.
+pub fn field(step: Option<Step>) -> Field {
     let float = f64::from_bits;
     let nothing = Field::default();
     match step {

@@ -137,14 +137,6 @@ fn two_paulis(dice: &mut Dice, seen: &mut Outcomes) {
     );
 }
 
-/// The mask without bit q, those above it moving down one.
-fn dropped(p: Pauli, q: usize) -> Pauli {
-    match q {
-        0..64 => p.dropped(q),
-        _ => Pauli { n: p.n - 1, ..p },
-    }
-}
-
 fn one_active(dice: &mut Dice, seen: &mut Outcomes) {
     let p = any_active(dice);
     let (q, exponent) = (any_qubit(dice, p.n), dice.word() as u8);
@@ -168,7 +160,7 @@ fn one_active(dice: &mut Dice, seen: &mut Outcomes) {
         input,
     );
     let answered = naribhush::active_dropped(active(p), q);
-    let expected = unless(of_qubit, || active(dropped(p, q)));
+    let expected = unless(of_qubit, || active(p.dropped(q)));
     seen.answered("dropped", &answered, &expected, input);
 
     let k = (p.k % 4 + exponent % 4) % 4;

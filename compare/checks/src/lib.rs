@@ -4,6 +4,7 @@
 pub mod case;
 pub mod convert;
 pub mod direct_amplitudes;
+pub mod direct_past;
 pub mod direct_paulis;
 pub mod draw;
 pub mod floats;

@@ -7,7 +7,7 @@ use crate::run::{LIMIT, Refusal, Run, Step, read};
 /// else a Z part.
 pub fn takes_product(q: Pauli, m: Pauli, pivot: u8) -> bool {
     let mask = if m.x != 0 { q.x } else { q.z };
-    mask >> pivot & 1 == 1
+    pivot < 64 && mask >> pivot & 1 == 1
 }
 
 fn projected(q: Pauli, m: Pauli, pivot: u8, new_branch: u8) -> Pauli {

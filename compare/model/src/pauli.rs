@@ -51,9 +51,12 @@ impl Pauli {
         parity(self.x, other.z) != parity(self.z, other.x)
     }
 
-    /// The pivot's bit dropped from both masks, those above it moving down one.
+    /// The pivot's bit dropped from both masks, those above it moving down one; none stands from bit 64 on.
     pub fn dropped(self, pivot: usize) -> Self {
         let drop = |mask: u64| {
+            if pivot >= 64 {
+                return mask;
+            }
             let low = (1u64 << pivot) - 1;
             (mask & low) | (mask >> 1 & !low)
         };

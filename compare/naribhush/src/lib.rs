@@ -98,6 +98,27 @@ pub struct Read {
     pub width: usize,
 }
 
+/// A step by its tag, 2 to 5, as it is handed over: its sign or branch is a number. What the step does not have is
+/// not looked at.
+#[repr(C)]
+#[derive(Clone, Copy, Debug, PartialEq, Default)]
+pub struct GivenStep {
+    pub tag: u8,
+    pub pauli: ActivePauli,
+    pub flag: u8,
+    pub pivot: usize,
+    pub first: f64,
+    pub second: f64,
+}
+
+/// What taking a Pauli past a step answers: the step that is left behind, and the Pauli then.
+#[repr(C)]
+#[derive(Clone, Copy, Debug, PartialEq, Default)]
+pub struct Past {
+    pub field: Field,
+    pub pauli: ActivePauli,
+}
+
 /// What checking a run answers.
 #[repr(C)]
 #[derive(Clone, Copy, Debug, PartialEq, Eq, Default)]
@@ -245,6 +266,7 @@ unsafe extern "C" {
     fn naribhush_check_within(run: *const u8, len: usize, limit: usize) -> Seen<Survey>;
     fn naribhush_run(run: *const u8, len: usize, re: *mut f64, re_len: usize, im: *mut f64, im_len: usize, scratch_re: *mut f64, scratch_re_len: usize, scratch_im: *mut f64, scratch_im_len: usize) -> SeenEnding;
     fn naribhush_carry(run: *const u8, len: usize, pauli: ActivePauli, out: *mut u8, out_len: usize) -> Seen<ActivePauli>;
+    fn naribhush_past(pauli: ActivePauli, step: GivenStep) -> Seen<Past>;
     fn naribhush_listing(run: *const u8, len: usize, out: *mut u8, out_len: usize) -> Seen<usize>;
     fn naribhush_serve(ledger: Ledger, run: *const u8, len: usize, re: *mut f64, re_len: usize, im: *mut f64, im_len: usize, scratch_re: *mut f64, scratch_re_len: usize, scratch_im: *mut f64, scratch_im_len: usize) -> SeenServed;
 }
@@ -522,6 +544,11 @@ pub fn carry_run(run: &[u8], pauli: ActivePauli, out: &mut [u8]) -> Answer<Activ
     let seen =
         unsafe { naribhush_carry(run.as_ptr(), run.len(), pauli, out.as_mut_ptr(), out.len()) };
     seen.answer()
+}
+
+/// The Pauli past one step.
+pub fn past(pauli: ActivePauli, step: GivenStep) -> Answer<Past> {
+    unsafe { naribhush_past(pauli, step) }.answer()
 }
 
 /// What the program `bench` prints of a run, to the start of `out`.

@@ -1,4 +1,4 @@
--- What the calls answer on Paulis that fit: their values. Assumes nothing.
+-- What the calls answer on Paulis that fit: their values.
 use mathlib.Core.Path.{_≡_, refl, sym}
 use mathlib.Core.Bool.{Bool, true, false, not}
 use Prim.Native.Nat.{ℕ, _<_}

@@ -1,4 +1,4 @@
--- What the declared types mean. Assumes nothing.
+-- What the declared types mean.
 use mathlib.Core.Bool.{Bool}
 use Rattle.answers.specs.Answer.{Answer}
 use Rattle.answers.specs.Answer.Answer.{accepted, refused}
@@ -12,10 +12,10 @@ use Rattle.activepauli.specs.declared.ActiveBitAnswer.the-variants as bi
 abbrev pub activeOf : ActivePauli → Pauli
 activeOf a = record { n = a .nqubits; k = a .phase; x = a .x; z = a .z }
 
-abbrev pub pauliTold : ActivePauliAnswer → Answer Pauli
-pauliTold (made.Pauli a) = accepted (activeOf a)
-pauliTold (made.Refused n) = refused n
+abbrev pub activePauliAnswerOf : ActivePauliAnswer → Answer Pauli
+activePauliAnswerOf (made.Pauli a) = accepted (activeOf a)
+activePauliAnswerOf (made.Refused n) = refused n
 
-abbrev pub bitTold : ActiveBitAnswer → Answer Bool
-bitTold (bit.Bit b) = accepted b
-bitTold (bit.Refused n) = refused n
+abbrev pub activeBitAnswerOf : ActiveBitAnswer → Answer Bool
+activeBitAnswerOf (bit.Bit b) = accepted b
+activeBitAnswerOf (bit.Refused n) = refused n

@@ -1,4 +1,4 @@
--- What the calls answer that the first layer does not have. Assumes nothing.
+-- What the calls answer that the first layer does not have.
 use Prim.Native.Nat.{ℕ}
 use Rattle.answers.specs.Answer.{Answer}
 use Rattle.answers.specs.Answer.Answer.{accepted}

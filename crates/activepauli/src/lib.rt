@@ -10,7 +10,7 @@ ghost use Rattle.bitlaws.specs.Parity.{overlap};
 ghost use Rattle.paulilaws.specs.Pauli.{fits};
 ghost use Rattle.paulis.specs.Calls.{bitCall};
 ghost use Rattle.pauligroup.specs.Calls.{productCall, anticommutesCall, squaresCall};
-ghost use Rattle.activepauli.specs.Active.{activeOf, pauliTold, bitTold};
+ghost use Rattle.activepauli.specs.Active.{activeOf, activePauliAnswerOf, activeBitAnswerOf};
 ghost use Rattle.activepauli.specs.Calls.{raisedCall, droppedCall};
 
 #[repr(C)]
@@ -38,14 +38,14 @@ impl ActivePauli {
         ensures { λ r. ⌜ r ≡ fits (activeOf self) ⌝ }
     {
         (self.phase <= 3)
-            & (self.nqubits <= 256)
+            & (self.nqubits <= paulis::MOST_QUBITS)
             & masks::word_fits(self.x, self.nqubits)
             & masks::word_fits(self.z, self.nqubits)
     }
 
     // The product, in which `rhs` acts first.
     pub fn mul(self, rhs: ActivePauli) -> ActivePauliAnswer
-        ensures { λ r. ⌜ pauliTold r ≡ productCall (activeOf self) (activeOf rhs) ⌝ }
+        ensures { λ r. ⌜ activePauliAnswerOf r ≡ productCall (activeOf self) (activeOf rhs) ⌝ }
     {
         if !(self.is_pauli() & rhs.is_pauli()) {
             return ActivePauliAnswer::Refused(3);
@@ -63,7 +63,7 @@ impl ActivePauli {
 
     // Symplectic inner product: true when the two anticommute.
     pub fn anticommutes(self, other: ActivePauli) -> ActiveBitAnswer
-        ensures { λ r. ⌜ bitTold r ≡ anticommutesCall (activeOf self) (activeOf other) ⌝ }
+        ensures { λ r. ⌜ activeBitAnswerOf r ≡ anticommutesCall (activeOf self) (activeOf other) ⌝ }
     {
         if !(self.is_pauli() & other.is_pauli()) {
             return ActiveBitAnswer::Refused(3);
@@ -76,7 +76,7 @@ impl ActivePauli {
 
     // Whether the operator is Hermitian.
     pub fn is_hermitian(self) -> ActiveBitAnswer
-        ensures { λ r. ⌜ bitTold r ≡ squaresCall (activeOf self) ⌝ }
+        ensures { λ r. ⌜ activeBitAnswerOf r ≡ squaresCall (activeOf self) ⌝ }
     {
         if !self.is_pauli() {
             return ActiveBitAnswer::Refused(3);
@@ -86,7 +86,7 @@ impl ActivePauli {
 
     // Times i^exponent.
     pub fn raised(self, exponent: u8) -> ActivePauliAnswer
-        ensures { λ r. ⌜ pauliTold r ≡ raisedCall (activeOf self) exponent ⌝ }
+        ensures { λ r. ⌜ activePauliAnswerOf r ≡ raisedCall (activeOf self) exponent ⌝ }
     {
         if !self.is_pauli() {
             return ActivePauliAnswer::Refused(3);
@@ -101,7 +101,7 @@ impl ActivePauli {
 
     // Without qubit `q`: the masks lose its bit, those above it moving down one.
     pub fn dropped(self, q: usize) -> ActivePauliAnswer
-        ensures { λ r. ⌜ pauliTold r ≡ droppedCall (activeOf self) q ⌝ }
+        ensures { λ r. ⌜ activePauliAnswerOf r ≡ droppedCall (activeOf self) q ⌝ }
     {
         if !self.is_pauli() {
             return ActivePauliAnswer::Refused(3);
@@ -119,14 +119,14 @@ impl ActivePauli {
 
     // Whether qubit `q` has an X component.
     pub fn x_bit(self, q: usize) -> ActiveBitAnswer
-        ensures { λ r. ⌜ bitTold r ≡ bitCall (activeOf self) (self .x) q ⌝ }
+        ensures { λ r. ⌜ activeBitAnswerOf r ≡ bitCall (activeOf self) (self .x) q ⌝ }
     {
         mask_bit(self, self.x, q)
     }
 
     // Whether qubit `q` has a Z component.
     pub fn z_bit(self, q: usize) -> ActiveBitAnswer
-        ensures { λ r. ⌜ bitTold r ≡ bitCall (activeOf self) (self .z) q ⌝ }
+        ensures { λ r. ⌜ activeBitAnswerOf r ≡ bitCall (activeOf self) (self .z) q ⌝ }
     {
         mask_bit(self, self.z, q)
     }
@@ -134,7 +134,7 @@ impl ActivePauli {
 
 // Qubit q's bit of a mask of the Pauli, which is looked at here.
 fn mask_bit(pauli: ActivePauli, word: u64, q: usize) -> ActiveBitAnswer
-    ensures { λ r. ⌜ bitTold r ≡ bitCall (activeOf pauli) word q ⌝ }
+    ensures { λ r. ⌜ activeBitAnswerOf r ≡ bitCall (activeOf pauli) word q ⌝ }
 {
     if !pauli.is_pauli() {
         return ActiveBitAnswer::Refused(3);

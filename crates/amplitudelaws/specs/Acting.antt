@@ -1,4 +1,4 @@
--- What a step makes of the amplitudes, and what a list of steps does, over any arithmetic. Assumes nothing.
+-- What a step makes of the amplitudes, and what a list of steps does, over any arithmetic.
 use mathlib.Core.Path.{_≡_}
 use mathlib.Core.Bool.{true}
 use mathlib.Core.List.{List, [], _∷_}

@@ -1,4 +1,4 @@
--- A complex amplitude, and the arithmetic in which the formulas are written: binary64 with each rounding, or an exact one. Assumes nothing.
+-- A complex amplitude, and the arithmetic in which the formulas are written: binary64 with each rounding, or an exact one.
 use mathlib.Core.Path.{_≡_, ap}
 use mathlib.Core.Bool.{Bool, cond}
 use Prim.Native.Nat.{ℕ, zero, suc, _%_}

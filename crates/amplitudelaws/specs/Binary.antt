@@ -1,4 +1,4 @@
--- The arithmetic of the amplitudes: IEEE 754 binary64, each operation rounded to nearest, ties to even. Assumes nothing.
+-- The arithmetic of the amplitudes: IEEE 754 binary64, each operation rounded to nearest, ties to even.
 use mathlib.Core.Bool.{Bool, cond, _&&_}
 use lib.Ieee as Ieee
 use lib.Ieee.{Float, binary64, ofBits, lt, le}

@@ -6,7 +6,7 @@ pub mod Sum
 pub mod Matrix
 pub mod Operators
 pub mod Parts
-pub mod Letters
+pub mod Factors
 pub mod Spelled
 pub mod Action
 pub mod Product

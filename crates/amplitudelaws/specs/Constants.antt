@@ -1,4 +1,4 @@
--- The constants of the formulas are the numbers that they stand for: 0, 1, and of all floats the nearest to 1 / sqrt 2. Assumes nothing.
+-- The constants of the formulas are the numbers that they stand for: 0, 1, and of all floats the nearest to 1 / sqrt 2.
 use mathlib.Core.Path.{_≡_, refl}
 use mathlib.Core.Bool.{false}
 use Prim.Native.Nat.{ℕ, _+_, _-_, _*_, _^_, _<_}

@@ -1,4 +1,4 @@
--- A Pauli fired as a pulse: its action on the amplitudes. Assumes nothing.
+-- A Pauli fired as a pulse: its action on the amplitudes.
 use Prim.Native.Nat.{ℕ, _+_, _*_, _%_}
 use lib.Bits.{bitXor}
 use Rattle.bitlaws.specs.Parity.{overlap}

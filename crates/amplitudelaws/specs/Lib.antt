@@ -7,6 +7,8 @@ pub mod Projection
 pub mod Correction
 pub mod Probability
 pub mod State
+pub mod Memory
+pub mod Lent
 pub mod Sweeping
 pub mod Pairing
 pub mod Step
@@ -15,5 +17,6 @@ pub mod Near
 pub mod Valued
 pub mod Steps
 pub mod Rows
+pub mod Calls
 pub mod Passed
 pub mod Book

@@ -1,4 +1,4 @@
--- Only the amplitudes of the n qubits count: a step, or a list of steps, makes the same of two vectors that agree in them. Assumes nothing.
+-- Only the amplitudes of the n qubits count: a step, or a list of steps, makes the same of two vectors that agree in them.
 use mathlib.Core.Path.{_≡_, refl, subst}
 use mathlib.Core.Bool.{Bool, true, false, cond}
 use mathlib.Core.List.{List, [], _∷_}

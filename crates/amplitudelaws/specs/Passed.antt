@@ -1,4 +1,4 @@
--- What is known of the arguments of a call that no row refuses. Assumes nothing.
+-- What is known of the arguments of a call that no row refuses.
 use mathlib.Core.Path.{_≡_}
 use mathlib.Core.Bool.{Bool, true, false, cond, not}
 use Prim.Native.Nat.{ℕ, _^_, _≤_, _<_}
@@ -12,7 +12,7 @@ use Rattle.paulilaws.specs.Pauli.{Pauli, fits, hermitian, mostQubits}
 use Rattle.paulilaws.specs.Fitting.{Fitting, fits-fitting, both-left, both-right}
 use Rattle.statelaws.specs.Pairs.{Pivoted}
 use Rattle.amplitudelaws.specs.Rows.{widthRow, hermitianRow, unitRow, rotationKernelRow, pivotMask, pivotRow, measurementRow, roomRow, promotedWidthRow, widestKernel, widestPromotion}
-use Rattle.amplitudelaws.specs.State.{State, roomFor, room}
+use Rattle.amplitudelaws.specs.State.{State, roomFor, room, HasRoom}
 
 module _ (widest : ℕ) (P : Pauli) where
   pub width-passed : widthRow widest P ≡ 0 → Fitting P × (P .n ≤ widest)
@@ -76,7 +76,7 @@ room-lengths k S e =
     let im = leb k (length (S .im)) in
     (leb-true k (length (S .re)) (both-left re im e), leb-true k (length (S .im)) (both-right re im e))
 
-pub room-passed : (n : ℕ) (S : State) → roomRow (room n S) ≡ 0 → (2 ^ n ≤ length (S .re)) × (2 ^ n ≤ length (S .im))
+pub room-passed : (n : ℕ) (S : State) → roomRow (room n S) ≡ 0 → HasRoom n S
 unfolding roomRow room
 room-passed n S e = room-lengths (2 ^ n) S (not-false (room n S) (row-passed (not (room n S)) 13 0 (lit< tt) e .0))
 

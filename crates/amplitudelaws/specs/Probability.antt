@@ -1,4 +1,4 @@
--- The probability of a branch, before it is clamped: the squares of what the branch leaves, added from 0 by rising index. Assumes nothing.
+-- The probability of a branch, before it is clamped: the squares of what the branch leaves, added from 0 by rising index.
 use Prim.Native.Nat.{ℕ, zero, suc}
 use Rattle.paulilaws.specs.Pauli.{Pauli}
 use Rattle.amplitudelaws.specs.Arithmetic.{Amplitude, Arithmetic}

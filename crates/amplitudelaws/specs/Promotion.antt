@@ -1,4 +1,4 @@
--- The promotion of a qubit: the state times c|0> + i q|1>, the new qubit being the highest. Assumes nothing.
+-- The promotion of a qubit: the state times c|0> + i q|1>, the new qubit being the highest.
 use mathlib.Core.Path.{_≡_}
 use mathlib.Core.Bool.{cond}
 use Prim.Native.Nat.{ℕ, _+_, _-_, _^_, _<_}

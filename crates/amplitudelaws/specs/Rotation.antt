@@ -1,4 +1,4 @@
--- The rotation c - i s P, which is exp (- i phi P) where c and s are the cosine and the sine of phi. Assumes nothing.
+-- The rotation c - i s P, which is exp (- i phi P) where c and s are the cosine and the sine of phi.
 use mathlib.Core.Bool.{Bool, true, false}
 use Prim.Native.Nat.{ℕ, _+_, _%_}
 use lib.Bits.{bitXor}
@@ -28,14 +28,25 @@ module _ {R : Type 0} (A : Arithmetic R) where
     im = add (mul c (p .im)) (mul (t .im) (q .re));
   }
 
-  -- The three cases, by a kernel's masks x and z and its m: the first two arguments say whether x is 0, and whether z is.
-  -- The parity is the partner's.
-  unfoldable pub rotatedBy : Bool → Bool → ℕ → ℕ → ℕ → R → Amplitude R → (ℕ → Amplitude R) → ℕ → Amplitude R
-  rotatedBy true u x z sign c m F b = rotatedAlone c (negated A (eqb ((sign + overlap b z) % 2) 1) m) (F b)
-  rotatedBy false true x z sign c m F b = rotatedWith c (negated A (eqb (sign % 2) 1) m) (F b) (F (bitXor b x))
-  rotatedBy false false x z sign c m F b =
+  -- The three cases, each by the masks that it has and by m. x = 0: by the amplitude's own eigenvalue.
+  abbrev pub rotatedDiagonal : ℕ → ℕ → R → Amplitude R → (ℕ → Amplitude R) → ℕ → Amplitude R
+  rotatedDiagonal z sign c m F b = rotatedAlone c (negated A (eqb ((sign + overlap b z) % 2) 1) m) (F b)
+
+  -- z = 0: the coefficient is the same for every pair
+  abbrev pub rotatedUniform : ℕ → ℕ → R → Amplitude R → (ℕ → Amplitude R) → ℕ → Amplitude R
+  rotatedUniform x sign c m F b = rotatedWith c (negated A (eqb (sign % 2) 1) m) (F b) (F (bitXor b x))
+
+  -- otherwise: its sign is by the parity at the partner
+  abbrev pub rotatedPairs : ℕ → ℕ → ℕ → R → Amplitude R → (ℕ → Amplitude R) → ℕ → Amplitude R
+  rotatedPairs x z sign c m F b =
       let o = bitXor b x in
       mixed A c (scale A (direction A (sign + overlap o z)) m) (F b) (F o)
+
+  -- which of them: whether x is 0, and whether z is
+  unfoldable pub rotatedBy : Bool → Bool → ℕ → ℕ → ℕ → R → Amplitude R → (ℕ → Amplitude R) → ℕ → Amplitude R
+  rotatedBy true u x z sign c m F b = rotatedDiagonal z sign c m F b
+  rotatedBy false true x z sign c m F b = rotatedUniform x sign c m F b
+  rotatedBy false false x z sign c m F b = rotatedPairs x z sign c m F b
 
   -- the amplitude at b after the rotation of P by c and s, or by c and -s where sign is 1
   unfoldable pub rotated : Pauli → ℕ → R → R → (ℕ → Amplitude R) → ℕ → Amplitude R

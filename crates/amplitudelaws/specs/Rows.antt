@@ -1,4 +1,4 @@
--- Which row of the table refuses a call on amplitudes or a kernel, lowest number first; 0 where none does. Assumes nothing.
+-- Which row of the table refuses a call on amplitudes or a kernel, lowest number first; 0 where none does.
 use mathlib.Core.Bool.{Bool, false, not, cond, _&&_, _||_}
 use Prim.Native.Nat.{ℕ, suc, _-_}
 use lib.Dec.{leb, ltb, eqb}
@@ -10,7 +10,8 @@ use Rattle.paulilaws.specs.Pauli.{Pauli, fits, hermitian, mostQubits}
 use Rattle.amplitudelaws.specs.Binary.{inUnit}
 use Rattle.amplitudelaws.specs.State.{State, room}
 
--- the widest Pauli that becomes an action, a kernel or a correction, and the widest state that a qubit is promoted to
+-- the widest Pauli that becomes an action, the widest that becomes a kernel or a correction, and the widest state
+-- that a qubit is promoted from
 abbrev pub widestAction : ℕ
 widestAction = 62
 

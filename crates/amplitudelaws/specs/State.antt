@@ -1,7 +1,7 @@
--- A state of n qubits: two lists of which the first 2^n entries are amplitudes. What lies past them is no part of it and is kept. Assumes nothing.
+-- A state of n qubits: two lists of which the first 2^n entries are amplitudes. What lies past them is no part of it and is kept.
 use mathlib.Core.Bool.{Bool, _&&_}
 use mathlib.Core.List.{List}
-use Prim.Native.Nat.{ℕ, _^_}
+use Prim.Native.Nat.{ℕ, _^_, _≤_}
 use lib.Dec.{leb}
 use lib.Ieee.{Float, nan}
 use lib.ListN.{length, getD, set}
@@ -34,3 +34,6 @@ roomFor k S = leb k (length (S .re)) && leb k (length (S .im))
 -- and for those of n qubits
 unfoldable pub room : ℕ → State → Bool
 room n S = roomFor (2 ^ n) S
+
+abbrev pub HasRoom : ℕ → State → Type 0
+HasRoom n S = (2 ^ n ≤ length (S .re)) × (2 ^ n ≤ length (S .im))

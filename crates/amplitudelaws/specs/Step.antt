@@ -1,4 +1,4 @@
--- A step of a run, over any arithmetic's numbers, and the width behind it. Assumes nothing.
+-- A step of a run, over any arithmetic's numbers, and the width behind it.
 use Prim.Native.Nat.{ℕ, suc, _-_}
 use mathlib.Core.List.{List, [], _∷_}
 use Rattle.paulilaws.specs.Pauli.{Pauli}

@@ -1,4 +1,4 @@
--- What each step leaves of a state, at binary64. A Pauli's width is the state's. Assumes nothing.
+-- What each step leaves of a state, at binary64. A Pauli's width is the state's.
 use mathlib.Core.Bool.{Bool, true, false}
 use Prim.Native.Nat.{ℕ, suc, _-_, _^_}
 use lib.Dec.{eqb}

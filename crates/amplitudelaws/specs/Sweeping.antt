@@ -1,4 +1,4 @@
--- A loop over the amplitudes of n qubits, in place: what it has done after t turns. Assumes nothing.
+-- A loop over the amplitudes of n qubits, in place: what it has done after t turns.
 use mathlib.Core.Path.{_≡_, ap}
 use Prim.Native.Nat.{ℕ, _+_, _-_, _^_, _≤_, _<_}
 use lib.Bits.{bitXor}

@@ -1,4 +1,4 @@
--- The same steps with their numbers read in another type: Paulis, signs, branches, pivots and widths stay. Assumes nothing.
+-- The same steps with their numbers read in another type: Paulis, signs, branches, pivots and widths stay.
 use mathlib.Core.Path.{_≡_, refl, ap, _∙_}
 use mathlib.Core.List.{List, [], _∷_, map}
 use Prim.Native.Nat.{ℕ}

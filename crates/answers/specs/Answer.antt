@@ -1,5 +1,4 @@
 -- What an open call answers: a value, or a refusal by its number in the scope's table, with a place where the table has one.
--- Assumes nothing.
 use mathlib.Core.Bool.{Bool, true, false}
 use Prim.Native.Nat.{ℕ}
 

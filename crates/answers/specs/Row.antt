@@ -1,4 +1,4 @@
--- The rows of the table as one number: that of the lowest row which refuses a call, 0 where none does. Assumes nothing.
+-- The rows of the table as one number: that of the lowest row which refuses a call, 0 where none does.
 use mathlib.Core.Path.{_≡_, refl, sym, ap, _∙_}
 use mathlib.Core.Bool.{Bool, true, false}
 use Prim.Native.Nat.{ℕ, zero, suc, _<_}

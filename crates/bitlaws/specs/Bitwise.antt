@@ -1,4 +1,4 @@
--- `and`, `or` and `xor` of masks of any width, digit by digit. Assumes nothing.
+-- `and`, `or` and `xor` of masks of any width, digit by digit.
 use mathlib.Core.Path.{_≡_, refl, ap, _∙_}
 use Prim.Native.Nat.{ℕ, _+_, _*_, _/_, _%_, _^_, _<_, min, max}
 use native.Mathlib.Omega.{arith}

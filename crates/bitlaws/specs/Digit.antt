@@ -1,4 +1,4 @@
--- The binary digits of a number, or of a mask: reading one, and writing one. Assumes nothing.
+-- The binary digits of a number, or of a mask: reading one, and writing one.
 use mathlib.Core.Path.{_≡_, refl, sym, ap, ap₂, _∙_}
 use mathlib.Core.Bool.{Bool, true, false}
 use mathlib.Core.Logic.{_⊎_, inl, inr}

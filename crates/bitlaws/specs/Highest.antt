@@ -1,4 +1,4 @@
--- The highest set bit of a mask. Assumes nothing.
+-- The highest set bit of a mask.
 use mathlib.Core.Path.{_≡_, refl, sym, ap, _∙_}
 use mathlib.Core.Bool.{cond}
 use mathlib.Core.Logic.{⊎-elim}

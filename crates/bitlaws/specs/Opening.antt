@@ -1,4 +1,4 @@
--- A bit of a mask opened, and dropped, at any place. Assumes nothing.
+-- A bit of a mask opened, and dropped, at any place.
 use mathlib.Core.Path.{_≡_, ap, _∙_, subst}
 use Prim.Native.Nat.{ℕ, suc, _+_, _-_, _*_, _/_, _%_, _^_, _≤_, _<_}
 use native.Mathlib.Nat.{mod-eq-of-lt, div-eq-of-lt, div-add-mod', mul-right-comm, pow-suc}

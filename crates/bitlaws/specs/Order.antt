@@ -1,4 +1,4 @@
--- Two cases on the order of two numbers. Assumes nothing.
+-- Two cases on the order of two numbers.
 use mathlib.Core.Path.{_≡_}
 use mathlib.Core.Logic.{_⊎_, inl, inr, ⊎-elim}
 use Prim.Native.Nat.{ℕ, zero, suc, _≤_, _<_}

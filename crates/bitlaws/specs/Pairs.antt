@@ -1,4 +1,4 @@
--- The pairs b, b xor x, counted by the basis without the pivot, where x has the pivot. Assumes nothing.
+-- The pairs b, b xor x, counted by the basis without the pivot, where x has the pivot.
 use mathlib.Core.Path.{_≡_, sym, ap, _∙_}
 use mathlib.Core.Logic.{_⊎_, inl, inr, ⊎-elim}
 use Prim.Native.Nat.{ℕ, suc, _+_, _*_, _%_, _^_, _≤_, _<_}

@@ -1,4 +1,4 @@
--- Parity, and the parity of what two masks share, over masks of any width: linear in each. Assumes nothing.
+-- Parity, and the parity of what two masks share, over masks of any width: linear in each.
 use mathlib.Core.Path.{_≡_, refl, sym, ap, ap₂, _∙_}
 use mathlib.Core.Bool.{Bool, true, false}
 use Prim.Native.Nat.{ℕ, _+_, _/_, _%_, _<_, min}

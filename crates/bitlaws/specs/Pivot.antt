@@ -1,4 +1,4 @@
--- A pivot: one bit of a mask, opened, dropped, or written, against xor and the parity of an overlap. Assumes nothing.
+-- A pivot: one bit of a mask, opened, dropped, or written, against xor and the parity of an overlap.
 use mathlib.Core.Path.{_≡_, sym, ap, ap₂, _∙_}
 use Prim.Native.Nat.{ℕ, _+_, _*_, _/_, _%_, _^_, _≤_, _<_}
 use native.Mathlib.Nat.{div-add-mod', zero-mul, one-mul}

@@ -1,4 +1,4 @@
--- The basis that a diagonal projection reads. Assumes nothing.
+-- The basis that a diagonal projection reads.
 use mathlib.Core.Path.{_≡_, sym, ap, _∙_}
 use Prim.Native.Nat.{ℕ, suc, _+_, _*_, _%_, _^_, _≤_, _<_}
 use native.Mathlib.Nat.{mod-add-mod, mul-one}

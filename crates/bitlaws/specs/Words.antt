@@ -1,4 +1,4 @@
--- A mask kept in words of any one size, lowest first: word i is f i. Assumes nothing.
+-- A mask kept in words of any one size, lowest first: word i is f i.
 use mathlib.Core.Path.{_≡_, refl, sym, ap, ap₂, _∙_, subst}
 use mathlib.Core.Bool.{Bool, true, false, _&&_}
 use mathlib.Core.Logic.{⊎-elim}

@@ -1,4 +1,4 @@
--- Writing a digit of a mask, at any place. Assumes nothing.
+-- Writing a digit of a mask, at any place.
 use mathlib.Core.Path.{_≡_, refl, sym, ap, ap₂, _∙_, subst}
 use mathlib.Core.Logic.{⊎-elim}
 use Prim.Native.Nat.{ℕ, suc, _+_, _-_, _*_, _/_, _%_, _^_, _<_, min}

@@ -1,4 +1,4 @@
--- xor of masks of any width: it commutes, associates, is its own inverse, and stays below a power of two. Assumes nothing.
+-- xor of masks of any width: it commutes, associates, is its own inverse, and stays below a power of two.
 use mathlib.Core.Path.{_≡_, sym, ap, ap₂, _∙_}
 use Prim.Native.Nat.{ℕ, _+_, _*_, _/_, _%_, _<_}
 use native.Mathlib.Omega.{arith}

@@ -1,4 +1,4 @@
--- The masks and shifts of insert_zero_bit, in a word of any size. Assumes nothing.
+-- The masks and shifts of insert_zero_bit, in a word of any size.
 use mathlib.Core.Path.{_≡_, sym, ap, ap₂, _∙_, subst}
 use Prim.Native.Nat.{ℕ, _+_, _-_, _*_, _/_, _%_, _^_, _≤_, _<_}
 use native.Mathlib.Nat.{mod-lt, mul-right-comm, add-zero}

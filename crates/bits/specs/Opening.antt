@@ -1,4 +1,4 @@
--- What insert_zero_bit answers, and what its answer says. Assumes nothing.
+-- What insert_zero_bit answers, and what its answer says.
 use mathlib.Core.Path.{_≡_}
 use mathlib.Core.Bool.{Bool, true, false}
 use Prim.Native.Nat.{ℕ, _%_, _^_, _<_}
@@ -12,9 +12,9 @@ use Rattle.bits.specs.declared.Opened.{Opened}
 use Rattle.bits.specs.declared.Opened.the-variants.{Index, Refused}
 
 -- the answer that each case of the enum is
-abbrev pub told : Opened → Answer ℕ
-told (Index i) = accepted i
-told (Refused n) = refused n
+abbrev pub openedOf : Opened → Answer ℕ
+openedOf (Index i) = accepted i
+openedOf (Refused n) = refused n
 
 -- row 5 past bit 63, else the 64-bit index with the bit opened: what moves past bit 63 is lost
 unfoldable pub opening : ℕ → ℕ → Answer ℕ

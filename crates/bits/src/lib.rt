@@ -6,8 +6,8 @@ ghost use Prim.Native.Nat.{_+_, _%_};
 ghost use Rattle.bitlaws.specs.Digit.{bitOf, digit};
 ghost use Rattle.bitlaws.specs.Highest.{highest};
 ghost use Rattle.bitlaws.specs.Parity.{parity, overlap};
-ghost use Rattle.bits.specs.Highest.{highestTold};
-ghost use Rattle.bits.specs.Opening.{told, opening};
+ghost use Rattle.bits.specs.Highest.{highestBitOf};
+ghost use Rattle.bits.specs.Opening.{openedOf, opening};
 
 // What opening a bit answers: the wider index, or the refusal's number.
 pub enum Opened {
@@ -48,7 +48,7 @@ pub fn differs_from_parity(bit: bool, a: u64, b: u64) -> bool
 // Widens `packed` by opening a zero bit at position `bit`: the inverse of dropping qubit `bit` from
 // a basis index. A top bit that would move past bit 63 is lost; a position over 63 is refused by 5.
 pub fn insert_zero_bit(packed: usize, bit: usize) -> Opened
-    ensures { λ r. ⌜ told r ≡ opening packed bit ⌝ }
+    ensures { λ r. ⌜ openedOf r ≡ opening packed bit ⌝ }
 {
     if 63 < bit {
         return Opened::Refused(5);
@@ -59,7 +59,7 @@ pub fn insert_zero_bit(packed: usize, bit: usize) -> Opened
 
 // The highest set bit of a word, if it has one.
 pub fn highest_bit(word: u64) -> HighestBit
-    ensures { λ r. ⌜ highestTold r ≡ highest 64 word ⌝ }
+    ensures { λ r. ⌜ highestBitOf r ≡ highest 64 word ⌝ }
 {
     if word == 0 {
         return HighestBit::Empty;

@@ -1,3 +1,2 @@
-pub mod Told
-pub mod Suited
+pub mod Meaning
 pub mod Ready

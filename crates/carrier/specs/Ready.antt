@@ -1,11 +1,11 @@
--- What carrying past all steps of a run asks for, besides the bytes. Assumes nothing.
+-- What carrying past all steps of a run asks for, besides the bytes.
 use mathlib.Core.Path.{_≡_}
 use mathlib.Core.List.{List, []}
 use Prim.Native.Nat.{ℕ, _≤_}
 use lib.ListN.{length}
 use Rattle.answers.specs.Answer.{valueOr}
 use Rattle.answers.specs.Answer.Answer.{accepted}
-use Rattle.paulilaws.specs.Pauli.{Pauli, mostQubits}
+use Rattle.paulilaws.specs.Pauli.{Pauli}
 use Rattle.paulilaws.specs.Fitting.{Admitted}
 use Rattle.runlaws.specs.Run.{Run, runOf}
 
@@ -15,7 +15,6 @@ runIn limit s = valueOr (record { width = 0; steps = [] }) (runOf limit s)
 
 -- an accepted run, a Pauli on its start qubits, and an output with room for it
 pub record Ready (limit : ℕ) (s : List ℕ) (Q : Pauli) (out : List ℕ) : Type 0 where
-  pub small : limit ≤ mostQubits
   pub read : runOf limit s ≡ accepted (runIn limit s)
   pub admitted : Admitted Q
   pub width : Q .n ≡ runIn limit s .width

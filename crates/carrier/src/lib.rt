@@ -1,25 +1,22 @@
 // Carrying: a Pauli noted before a run is taken past each of its steps instead of being fired. The run
 // is written to a lent output with its signs and branches altered to suit, and the Pauli that is left at the
 // end is answered.
-mod passing;
-
 use activepauli::ActivePauli;
-use checker::CheckAnswer;
-use fields::StartAnswer;
+use checker::Checked;
+use passing::PassAnswer;
 use steps::Cursor;
 use steps::Read;
 use steps::Step;
 ghost use mathlib.Core.Path.{_≡_};
 ghost use Prim.Native.Nat.{_+_, _≤_};
 ghost use lib.ListN.{length};
-ghost use Rattle.paulilaws.specs.Pauli.{mostQubits};
 ghost use Rattle.activepauli.specs.Active.{activeOf};
 ghost use Rattle.framelaws.specs.Carrying.{carriedSteps, endPauli};
 ghost use Rattle.runlaws.specs.Run.{widestRun};
 ghost use Rattle.runlaws.specs.Flags.{fieldSize, flagAt, flagged};
 ghost use Rattle.runlaws.specs.Calls.{carrying, carryingRow};
-ghost use Rattle.steps.specs.Meant.{stepOf};
-ghost use Rattle.carrier.specs.Told.{carryTold};
+ghost use Rattle.steps.specs.Meaning.{stepOf};
+ghost use Rattle.carrier.specs.Meaning.{carryAnswerOf};
 ghost use Rattle.carrier.specs.Ready.{runIn, Ready};
 
 // The end Pauli; or the run's own refusal with its place, or 3, 4 or 16.
@@ -29,34 +26,38 @@ pub enum CarryAnswer {
     RefusedAt(u8, usize),
 }
 
-// A run of the service, at most 12 qubits wide. The output holds the run with its new signs and branches,
-// and what it held past the run's length; on a refusal it stays as it was.
+// Where a rotation's field has its sign.
+const SIGN_AT: usize = 20;
+
+// Where a projection's field has its branch.
+const BRANCH_AT: usize = 21;
+
+// A run of the service. The output holds the run with its new signs and branches, and what it held past the
+// run's length; on a refusal it stays as it was.
 pub fn carry_run(run: &[u8], pauli: ActivePauli, out: &mut [u8]) -> CarryAnswer
-    ensures answer { λ r. ⌜ carryTold r ≡ carrying widestRun (now (run .entry)) (activeOf pauli) (now (out .entry)) .answer ⌝ }
-    ensures output { λ _. ⌜ now (out .exit) ≡ carrying widestRun (now (run .entry)) (activeOf pauli) (now (out .entry)) .lent ⌝ }
+    ensures { λ r. let did = carrying widestRun (now (run .entry)) (activeOf pauli) (now (out .entry)) in
+        ⌜ (carryAnswerOf r ≡ did .answer) × (now (out .exit) ≡ did .lent) ⌝ }
 {
-    carry_within(run, pauli, out, 12)
+    carry_within(run, pauli, out, checker::WIDEST_RUN)
 }
 
-// A run under any limit on the width. A run that is checked has a start field: without one it was refused.
+// Under any limit on the width.
 fn carry_within(run: &[u8], pauli: ActivePauli, out: &mut [u8], limit: usize) -> CarryAnswer
-    requires { ⌜ limit ≤ mostQubits ⌝ }
-    ensures answer { λ r. ⌜ carryTold r ≡ carrying limit (now (run .entry)) (activeOf pauli) (now (out .entry)) .answer ⌝ }
-    ensures output { λ _. ⌜ now (out .exit) ≡ carrying limit (now (run .entry)) (activeOf pauli) (now (out .entry)) .lent ⌝ }
+    ensures { λ r. let did = carrying limit (now (run .entry)) (activeOf pauli) (now (out .entry)) in
+        ⌜ (carryAnswerOf r ≡ did .answer) × (now (out .exit) ≡ did .lent) ⌝ }
 {
-    if let CheckAnswer::Refused(row, at) = checker::check_within(run, limit) {
-        return CarryAnswer::RefusedAt(row, at);
+    match checker::check_with_start(run, limit) {
+        Checked::Refused(row, at) => CarryAnswer::RefusedAt(row, at),
+        Checked::Run(width, _) => {
+            let row = carrying_row(pauli, width, run.len(), out.len());
+            if row != 0 {
+                return CarryAnswer::Refused(row);
+            }
+            bytes::copy(run, out);
+            let last = carry_steps(run, pauli, out, limit);
+            CarryAnswer::Carried(last)
+        }
     }
-    let StartAnswer::Width(width) = fields::start(run, limit) else {
-        return CarryAnswer::RefusedAt(14, 0);
-    };
-    let row = carrying_row(pauli, width, run.len(), out.len());
-    if row != 0 {
-        return CarryAnswer::Refused(row);
-    }
-    bytes::copy(run, out);
-    let last = carry_steps(run, pauli, out, limit);
-    CarryAnswer::Carried(last)
 }
 
 // 3, 4 and 16: `size` is the run's, `room` the output's.
@@ -76,11 +77,11 @@ fn carrying_row(pauli: ActivePauli, width: usize, size: usize, room: usize) -> u
 // step is the run's end.
 fn carry_steps(run: &[u8], pauli: ActivePauli, out: &mut [u8], limit: usize) -> ActivePauli
     requires { ⌜ Ready limit (now run) (activeOf pauli) (now out) ⌝ }
-    ensures last { λ r. ⌜ activeOf r ≡ endPauli (activeOf pauli) (runIn limit (now (run .entry)) .steps) ⌝ }
-    ensures output { λ _. ⌜ now (out .exit) ≡ flagged 4 (carriedSteps (activeOf pauli) (runIn limit (now (run .entry)) .steps)) (now (out .entry)) ⌝ }
+    ensures { λ r. let Q = activeOf pauli in let steps = runIn limit (now (run .entry)) .steps in
+        ⌜ (activeOf r ≡ endPauli Q steps) × (now (out .exit) ≡ flagged 4 (carriedSteps Q steps) (now (out .entry))) ⌝ }
 {
     let mut cursor = Cursor {
-        at: 4,
+        at: fields::START_BYTES,
         width: pauli.nqubits,
     };
     let mut held = pauli;
@@ -89,9 +90,12 @@ fn carry_steps(run: &[u8], pauli: ActivePauli, out: &mut [u8], limit: usize) -> 
         let Read::Step(step, next) = got else {
             break;
         };
-        let carried = passing::carried_step(held, step);
+        let PassAnswer::Past(carried, behind) = passing::past(held, step) else {
+            // Never: a Pauli on the state's qubits is taken past any step that was checked.
+            return held;
+        };
         write_flag(out, cursor.at, carried);
-        held = passing::passed(held, step);
+        held = behind;
         cursor = next;
     }
     held
@@ -104,10 +108,10 @@ fn write_flag(out: &mut [u8], at: usize, step: Step)
 {
     match step {
         Step::Rotation(_, sign, _, _) => {
-            out[at + 20] = passing::digit(sign);
+            out[at + SIGN_AT] = sign as u8;
         }
         Step::Projection(_, _, branch, _) => {
-            out[at + 21] = passing::digit(branch);
+            out[at + BRANCH_AT] = branch as u8;
         }
         Step::Promotion(_, _) => {}
         Step::Correction(_) => {}

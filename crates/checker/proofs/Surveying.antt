@@ -1,4 +1,4 @@
--- What the loop over a run's fields keeps: the survey so far, gone on with over the rest of the steps, is the whole run's. Assumes nothing.
+-- What the loop over a run's fields keeps: the survey so far, gone on with over the rest of the steps, is the whole run's.
 use mathlib.Core.Path.{_≡_, refl, sym, ap, _∙_}
 use mathlib.Core.List.{List, [], _∷_}
 use mathlib.Core.Bool.{Bool, true, false, cond, not}
@@ -31,7 +31,7 @@ use Rattle.runlaws.specs.Mapped.{mapped-mapped}
 use Rattle.steps.proofs.Read.{the-type}
 use Rattle.steps.specs.declared.Read as declared
 use Rattle.steps.specs.declared.Read.the-variants as read
-use Rattle.steps.specs.Meant.{cursorOf, readTold}
+use Rattle.steps.specs.Meaning.{cursorOf, readOf}
 use Rattle.checker.specs.Surveyed.{Measured, Surveyable, endedBy}
 
 -- v is the survey of the steps before the cursor, `all` that of the run; a step takes more bytes than one
@@ -104,7 +104,7 @@ module _ {limit : ℕ} {s : List ℕ} {all : Answer Survey} {c : Cursor} {v : Su
   answered rest e = sym (ap (mapped (surveyFrom v)) e) ∙ k .same
 
   -- what is no step ends the survey
-  pub no-step : (r : declared.Read) → readTold r ≡ readAt limit s c → OneOf (1 ∷ 2 ∷ []) (tagOf the-type r) → endedBy (length s) (readTold r) v ≡ all
+  pub no-step : (r : declared.Read) → readOf r ≡ readAt limit s c → OneOf (1 ∷ 2 ∷ []) (tagOf the-type r) → endedBy (length s) (readOf r) v ≡ all
   unfolding endedBy mapped ended
   no-step (read.Step t d) e h = absurd (⊎-elim (λ e. omega arith) (λ e. omega arith) h)
   no-step (read.End d) e h = end-answer v (ltb (d .at) (length s)) (d .at) ∙ answered _ (left-end (k .left) (cursorOf d) (sym e))

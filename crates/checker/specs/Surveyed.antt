@@ -1,4 +1,4 @@
--- What one step further of a survey asks for, and what a survey answers where no step is read. Assumes nothing.
+-- What one step further of a survey asks for, and what a survey answers where no step is read.
 use mathlib.Core.Path.{_≡_}
 use mathlib.Core.Bool.{cond}
 use Prim.Native.Nat.{ℕ, _<_, _≤_}

@@ -10,13 +10,13 @@ ghost use mathlib.Core.Path.{_≡_};
 ghost use Prim.Native.Nat.{_≤_, max};
 ghost use lib.ListN.{length};
 ghost use Rattle.framelaws.specs.Survey.{survey, mixedAmplitudes};
-ghost use Rattle.framelaws.specs.Survey as list;
+ghost use Rattle.framelaws.specs.Survey as frame;
 ghost use Rattle.runlaws.specs.Field.{mostBytes};
 ghost use Rattle.runlaws.specs.Run.{mapped, walk, widestRun};
-ghost use Rattle.runlaws.specs.Calls.{checking};
-ghost use Rattle.steps.specs.Meant.{stepOf, readTold};
+ghost use Rattle.runlaws.specs.Calls.{checking, checkingWithStart};
+ghost use Rattle.steps.specs.Meaning.{stepOf, readOf};
 ghost use Rattle.checker.specs.Surveyed.{Measured, Surveyable, endedBy};
-ghost use Rattle.checker.specs.Told.{surveyMeant, checkTold};
+ghost use Rattle.checker.specs.Meaning.{surveyFieldsOf, checkAnswerOf, checkedOf};
 
 #[repr(C)]
 pub struct Survey {
@@ -31,30 +31,56 @@ pub enum CheckAnswer {
     Refused(u8, usize),
 }
 
-// A run of the service, at most 12 qubits wide.
+// The width that a run starts at, and its survey.
+pub enum Checked {
+    Run(usize, Survey),
+    Refused(u8, usize),
+}
+
+// The widest state of a run of the service.
+pub const WIDEST_RUN: usize = 12;
+
+// A run of the service.
 pub fn check_run(run: &[u8]) -> CheckAnswer
-    ensures { λ r. ⌜ checkTold r ≡ checking widestRun (now (run .entry)) ⌝ }
+    ensures { λ r. ⌜ checkAnswerOf r ≡ checking widestRun (now (run .entry)) ⌝ }
 {
-    check_within(run, 12)
+    check_within(run, WIDEST_RUN)
 }
 
 // A run under any limit on the width.
 pub fn check_within(run: &[u8], limit: usize) -> CheckAnswer
-    ensures { λ r. ⌜ checkTold r ≡ checking limit (now (run .entry)) ⌝ }
+    ensures { λ r. ⌜ checkAnswerOf r ≡ checking limit (now (run .entry)) ⌝ }
+{
+    match check_with_start(run, limit) {
+        Checked::Refused(row, at) => CheckAnswer::Refused(row, at),
+        Checked::Run(_, survey) => CheckAnswer::Run(survey),
+    }
+}
+
+// The same, with the width that the run starts at.
+pub fn check_with_start(run: &[u8], limit: usize) -> Checked
+    ensures { λ r. ⌜ checkedOf r ≡ checkingWithStart limit (now (run .entry)) ⌝ }
 {
     let StartAnswer::Width(width) = fields::start(run, limit) else {
         // Too long, or without a start field within the limit.
-        return CheckAnswer::Refused(14, 0);
+        return Checked::Refused(14, 0);
     };
-    survey_steps(run, width, limit)
+    match survey_steps(run, width, limit) {
+        CheckAnswer::Refused(row, at) => Checked::Refused(row, at),
+        CheckAnswer::Run(survey) => Checked::Run(width, survey),
+    }
 }
 
 // The fields behind the start field, one after the other.
 fn survey_steps(run: &[u8], width: usize, limit: usize) -> CheckAnswer
     requires { ⌜ (4 ≤ length (now run)) × (length (now run) ≤ mostBytes) ⌝ }
-    ensures { λ r. ⌜ checkTold r ≡ mapped (survey width) (walk limit (length (now (run .entry))) (now (run .entry)) (record { at = 4; width = width })) ⌝ }
+    ensures { λ r. let s = now (run .entry) in
+        ⌜ checkAnswerOf r ≡ mapped (survey width) (walk limit (length s) s (record { at = 4; width = width })) ⌝ }
 {
-    let mut cursor = Cursor { at: 4, width };
+    let mut cursor = Cursor {
+        at: fields::START_BYTES,
+        width,
+    };
     let mut survey = Survey {
         width,
         steps: 0,
@@ -74,7 +100,7 @@ fn survey_steps(run: &[u8], width: usize, limit: usize) -> CheckAnswer
 // The answer to a read that is no step: the refusal with its place; at the end field the survey, or 14 at
 // the first byte past it.
 fn ended(size: usize, got: Read, survey: Survey) -> CheckAnswer
-    ensures { λ r. ⌜ checkTold r ≡ endedBy size (readTold got) (surveyMeant survey) ⌝ }
+    ensures { λ r. ⌜ checkAnswerOf r ≡ endedBy size (readOf got) (surveyFieldsOf survey) ⌝ }
 {
     match got {
         Read::Refused(row, at) => CheckAnswer::Refused(row, at),
@@ -91,8 +117,8 @@ fn ended(size: usize, got: Read, survey: Survey) -> CheckAnswer
 
 // One step further; `width` is the width behind it.
 fn surveyed(survey: Survey, step: Step, width: usize) -> Survey
-    requires { ⌜ Surveyable (surveyMeant survey) (stepOf step) width ⌝ }
-    ensures { λ r. ⌜ surveyMeant r ≡ list.surveyed (surveyMeant survey) (stepOf step) ⌝ }
+    requires { ⌜ Surveyable (surveyFieldsOf survey) (stepOf step) width ⌝ }
+    ensures { λ r. ⌜ surveyFieldsOf r ≡ frame.surveyed (surveyFieldsOf survey) (stepOf step) ⌝ }
 {
     Survey {
         width,

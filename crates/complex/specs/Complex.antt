@@ -1,4 +1,4 @@
--- What the declared type means. Assumes nothing.
+-- What the declared type means.
 use Rattle.amplitudelaws.specs.Binary.{Point}
 use Rattle.complex.specs.declared.Complex64.{Complex64}
 

@@ -14,6 +14,9 @@ pub struct Complex64 {
     pub im: f64,
 }
 
+// The bits of h, 1/sqrt 2.
+pub const H_BITS: u64 = 0x3FE6A09E667F3BCD;
+
 // i^phase, by the phase modulo 4.
 pub fn phase_factor(phase: u8) -> Complex64
     ensures { λ r. ⌜ complexOf r ≡ formula.power binary (phase % 4) ⌝ }

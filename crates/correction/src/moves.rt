@@ -5,19 +5,21 @@ use bits::Opened;
 use complex::Complex64;
 ghost use mathlib.Core.Path.{_≡_};
 ghost use Prim.Native.Nat.{_+_, _*_, _%_, _≤_, _<_, _^_};
-ghost use lib.ListN.{length};
 ghost use Rattle.bitlaws.specs.Opening.{openBit};
 ghost use Rattle.bitlaws.specs.Parity.{overlap};
 ghost use Rattle.statelaws.specs.Pairs.{Pivoted};
 ghost use Rattle.amplitudelaws.specs.Arithmetic.{quarters};
 ghost use Rattle.amplitudelaws.specs.Binary.{binary};
 ghost use Rattle.amplitudelaws.specs.Correction.{corrected};
-ghost use Rattle.amplitudelaws.specs.State.{stateOf, point, setPoint, written};
+ghost use Rattle.amplitudelaws.specs.Lent.{state, Room, In};
+ghost use Rattle.amplitudelaws.specs.Rows.{widestKernel};
+ghost use Rattle.amplitudelaws.specs.State.{point, setPoint, written};
 ghost use Rattle.activepauli.specs.Active.{activeOf};
 
 pub(crate) fn correct(re: &mut [f64], im: &mut [f64], pauli: ActivePauli)
-    requires { ⌜ (pauli .nqubits ≤ 61) × (pauli .x < 2 ^ (pauli .nqubits)) × (2 ^ (pauli .nqubits) ≤ length (now re)) × (2 ^ (pauli .nqubits) ≤ length (now im)) ⌝ }
-    ensures { λ _. ⌜ stateOf (now (re .exit)) (now (im .exit)) ≡ written (pauli .nqubits) (corrected binary (activeOf pauli) (point (stateOf (now (re .entry)) (now (im .entry))))) (stateOf (now (re .entry)) (now (im .entry))) ⌝ }
+    requires { ⌜ (pauli .nqubits ≤ widestKernel) × (pauli .x < 2 ^ (pauli .nqubits)) × Room (pauli .nqubits) re im ⌝ }
+    ensures { λ _. let S = state re im .entry in
+        ⌜ state re im .exit ≡ written (pauli .nqubits) (corrected binary (activeOf pauli) (point S)) S ⌝ }
 {
     let HighestBit::Bit(pair_bit) = bits::highest_bit(pauli.x) else {
         correct_alone(re, im, pauli);
@@ -27,8 +29,9 @@ pub(crate) fn correct(re: &mut [f64], im: &mut [f64], pauli: ActivePauli)
 }
 
 fn correct_alone(re: &mut [f64], im: &mut [f64], pauli: ActivePauli)
-    requires { ⌜ (pauli .nqubits ≤ 61) × (pauli .x ≡ 0) × (2 ^ (pauli .nqubits) ≤ length (now re)) × (2 ^ (pauli .nqubits) ≤ length (now im)) ⌝ }
-    ensures { λ _. ⌜ stateOf (now (re .exit)) (now (im .exit)) ≡ written (pauli .nqubits) (corrected binary (activeOf pauli) (point (stateOf (now (re .entry)) (now (im .entry))))) (stateOf (now (re .entry)) (now (im .entry))) ⌝ }
+    requires { ⌜ (pauli .nqubits ≤ widestKernel) × (pauli .x ≡ 0) × Room (pauli .nqubits) re im ⌝ }
+    ensures { λ _. let S = state re im .entry in
+        ⌜ state re im .exit ≡ written (pauli .nqubits) (corrected binary (activeOf pauli) (point S)) S ⌝ }
 {
     let dim = 1usize << pauli.nqubits;
     let mut b = 0;
@@ -49,8 +52,9 @@ fn exponent(phase: u8, basis: u64, zmask: u64) -> u8
 }
 
 fn turn_at(re: &mut [f64], im: &mut [f64], b: usize, exponent: u8)
-    requires { ⌜ (b < length (now re)) × (b < length (now im)) ⌝ }
-    ensures { λ _. ⌜ stateOf (now (re .exit)) (now (im .exit)) ≡ setPoint b (quarters binary (exponent % 4) (point (stateOf (now (re .entry)) (now (im .entry))) b)) (stateOf (now (re .entry)) (now (im .entry))) ⌝ }
+    requires { ⌜ In b re im ⌝ }
+    ensures { λ _. let S = state re im .entry in
+        ⌜ state re im .exit ≡ setPoint b (quarters binary (exponent % 4) (point S b)) S ⌝ }
 {
     let a = complex::quarters(
         exponent,
@@ -64,8 +68,10 @@ fn turn_at(re: &mut [f64], im: &mut [f64], b: usize, exponent: u8)
 }
 
 fn correct_pairs(re: &mut [f64], im: &mut [f64], pauli: ActivePauli, pair_bit: usize)
-    requires { ⌜ (pauli .nqubits ≤ 61) × Pivoted (pauli .nqubits) «pair_bit» (pauli .x) × (2 ^ (pauli .nqubits) ≤ length (now re)) × (2 ^ (pauli .nqubits) ≤ length (now im)) ⌝ }
-    ensures { λ _. ⌜ stateOf (now (re .exit)) (now (im .exit)) ≡ written (pauli .nqubits) (corrected binary (activeOf pauli) (point (stateOf (now (re .entry)) (now (im .entry))))) (stateOf (now (re .entry)) (now (im .entry))) ⌝ }
+    requires { let n = pauli .nqubits in
+        ⌜ (n ≤ widestKernel) × Pivoted n «pair_bit» (pauli .x) × Room n re im ⌝ }
+    ensures { λ _. let S = state re im .entry in
+        ⌜ state re im .exit ≡ written (pauli .nqubits) (corrected binary (activeOf pauli) (point S)) S ⌝ }
 {
     let half = 1usize << (pauli.nqubits - 1);
     let mut k = 0;
@@ -92,8 +98,11 @@ fn opened_at(k: usize, pair_bit: usize) -> usize
 }
 
 fn exchange(re: &mut [f64], im: &mut [f64], left: usize, right: usize, to_left: u8, to_right: u8)
-    requires { ⌜ (left < length (now re)) × (left < length (now im)) × (right < length (now re)) × (right < length (now im)) ⌝ }
-    ensures { λ _. ⌜ stateOf (now (re .exit)) (now (im .exit)) ≡ setPoint right (quarters binary («to_right» % 4) (point (stateOf (now (re .entry)) (now (im .entry))) left)) (setPoint left (quarters binary («to_left» % 4) (point (stateOf (now (re .entry)) (now (im .entry))) right)) (stateOf (now (re .entry)) (now (im .entry)))) ⌝ }
+    requires { ⌜ In left re im × In right re im ⌝ }
+    ensures { λ _. let S = state re im .entry in
+        let a = quarters binary («to_left» % 4) (point S right) in
+        let b = quarters binary («to_right» % 4) (point S left) in
+        ⌜ state re im .exit ≡ setPoint right b (setPoint left a S) ⌝ }
 {
     let p = Complex64 {
         re: re[left],

@@ -1,4 +1,4 @@
--- Runs written out as bytes, for examples: masks below 256, c and s (or c and q) 0 and 1, invnorm 1. Assumes nothing.
+-- Runs written out as bytes, for examples: masks below 256, c and s (or c and q) 0 and 1, invnorm 1.
 use mathlib.Core.List.{List, [], _∷_, _++_}
 use Prim.Native.Nat.{ℕ, suc}
 use lib.Ieee.{Float, binary64, ofBits}

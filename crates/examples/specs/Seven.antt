@@ -1,4 +1,4 @@
--- A ring in which 1 is not 0 and some h has h h + h h = 1, as the book theorem asks: the numbers modulo 7, where h = 2; and a run over it. Assumes nothing.
+-- A ring in which 1 is not 0 and some h has h h + h h = 1, as the book theorem asks: the numbers modulo 7, where h = 2; and a run over it.
 use mathlib.Core.Path.{_≡_, refl, sym, ap}
 use mathlib.Core.List.{[], _∷_}
 use Prim.Native.Nat.{ℕ, _+_, _*_, _-_, _/_, _%_, Fin}

@@ -1,4 +1,4 @@
--- The starred examples of the scope, one to a row, over the definitions that the open calls' promises cite. Assumes nothing.
+-- The starred examples of the scope, one to a row, over the definitions that the open calls' promises cite.
 use mathlib.Core.Path.{_≡_, refl}
 use mathlib.Core.List.{List, [], _∷_}
 use Prim.Native.Nat.{ℕ}
@@ -33,7 +33,7 @@ use Rattle.runlaws.specs.Field.{bodyLength, isWhole, fieldAt}
 use Rattle.runlaws.specs.Reading.{decoded, unless, judgedBy, judged, readField, readAt}
 use Rattle.runlaws.specs.Run.{widestRun, mapped, ended, follow, walk, startWidth, begun, runOf}
 use Rattle.runlaws.specs.Flags.{fieldSize, flagAt, flagged}
-use Rattle.runlaws.specs.Calls.{onRun, byRow, carryingRow, carriedRun, carrying}
+use Rattle.runlaws.specs.Calls.{onRun, carryingRow, carriedRun, carrying}
 use Rattle.examples.specs.Runs.{zero, one, runFrom, rotation, projection, outputFor, filledWith}
 
 -- the Pauli that a text spells
@@ -91,7 +91,7 @@ record Starred : Type 0 where
   promoting-1 : promotion 0 zero one (stateOf (one ∷ zero ∷ []) (zero ∷ zero ∷ [])) ≡ stateOf (zero ∷ minusZero ∷ []) (zero ∷ one ∷ [])
 
 starred : Starred
-unfolding opening openBit refuse pauli valueOr readCall reading letterOfByte withLetter letterAt digit put product overlap parity ones onesIn coefficient ys shown prefix body lettersFrom minus remainingBy remaining source scale raised promoted promotion point written over mul neg ofBits carrying onRun byRow carryingRow carriedRun runOf begun startWidth mapped walk follow ended readAt readField judged judgedBy unless decoded fieldAt isWhole bodyLength number floatAt pauliAt fits hermitian flagged flagAt fieldSize carriedSteps carriedStep passed flipped anti deciding meets absorbed endPauli raisedPhase dropped dropBit widthAfter stepRow rotationStepRow projectionStepRow rotationKernelRow measurementRow hermitianRow widthRow unitRow pivotRow pivotMask inUnit row first answered left le
+unfolding opening openBit refuse pauli valueOr readCall reading letterOfByte withLetter letterAt digit put product overlap parity ones onesIn coefficient ys shown prefix body lettersFrom minus remainingBy remaining source scale raised promoted promotion point written over mul neg ofBits carrying onRun carryingRow carriedRun runOf begun startWidth mapped walk follow ended readAt readField judged judgedBy unless decoded fieldAt isWhole bodyLength number floatAt pauliAt fits hermitian flagged flagAt fieldSize carriedSteps carriedStep passed flipped anti deciding meets absorbed endPauli raisedPhase dropped dropBit widthAfter stepRow rotationStepRow projectionStepRow rotationKernelRow measurementRow hermitianRow widthRow unitRow pivotRow pivotMask inUnit row first answered left le
 starred = record {
   open-bit-1-of-5 = refl;
   x-times-z = refl;

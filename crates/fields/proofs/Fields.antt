@@ -1,4 +1,4 @@
--- The field at a place: cut or whole, and known by its head and its body. Assumes nothing.
+-- The field at a place: cut or whole, and known by its head and its body.
 use mathlib.Core.Path.{_≡_, refl, sym, ap, _∙_}
 use mathlib.Core.Bool.{Bool, true, false, cond}
 use mathlib.Core.List.{List}
@@ -14,12 +14,12 @@ use Rattle.answers.specs.Row.{accepted-same, refusedAt-accepted}
 use Rattle.runlaws.specs.Bytes.{byteAt, part}
 use Rattle.runlaws.specs.Field.{Field, mostBytes, bodyLength, isWhole, fieldAt}
 use Rattle.runlaws.specs.Run.{startWidth}
-use Rattle.fields.specs.Told.{Head, fieldIn, placeIn, headOf, bodyOf, startOf}
+use Rattle.fields.specs.Meaning.{Head, fieldIn, placeIn, headCall, bodyCall, startCall}
 
 -- what is asked for at `at` is the field of this head and this body
-pub field-of : (at : ℕ) (f : Option Field) (tag next : ℕ) (body : List ℕ) → accepted (record { tag = tag; next = next }) ≡ headOf at f → body ≡ bodyOf f
+pub field-of : (at : ℕ) (f : Option Field) (tag next : ℕ) (body : List ℕ) → accepted (record { tag = tag; next = next }) ≡ headCall at f → body ≡ bodyCall f
     → f ≡ some (record { tag = tag; body = body; next = next })
-unfolding headOf bodyOf
+unfolding headCall bodyCall
 field-of at none tag next body h b = absurd (refusedAt-accepted (sym h))
 field-of at (some f) tag next body h b =
     let e = accepted-same h in
@@ -38,7 +38,7 @@ module _ (s : List ℕ) (at : ℕ) (short : length s ≤ mostBytes) where
   unfolding placeIn
   place-in = rw (le-ltb mostBytes (length s) short)
 
-  head-in : headOf (placeIn s at) (fieldIn s at) ≡ headOf at (fieldAt s at)
+  head-in : headCall (placeIn s at) (fieldIn s at) ≡ headCall at (fieldAt s at)
   head-in = rw (place-in, field-in)
 
 -- a field is in no other
@@ -51,8 +51,8 @@ field-short s at f e = go (ltb mostBytes (length s)) refl e
     go false h e = ltb-false mostBytes (length s) h
 
 module _ (s : List ℕ) (at : ℕ) where
-  pub head-long : mostBytes < length s → refusedAt 14 0 ≡ headOf (placeIn s at) (fieldIn s at)
-  unfolding fieldIn placeIn headOf
+  pub head-long : mostBytes < length s → refusedAt 14 0 ≡ headCall (placeIn s at) (fieldIn s at)
+  unfolding fieldIn placeIn headCall
   head-long h = simp (lt-ltb _ _ h)
 
   -- the field at `at` where it is whole
@@ -63,75 +63,75 @@ module _ (s : List ℕ) (at : ℕ) where
   unfolding bodyLength
   length-read = ap (λ (j : ℕ). byteAt s (at + 1) + 256 * byteAt s j) (add-assoc at 1 1)
 
-  cut : length s < at + 3 + bodyLength s at → refusedAt 14 at ≡ headOf at (fieldAt s at)
-  unfolding fieldAt isWhole headOf
+  cut : length s < at + 3 + bodyLength s at → refusedAt 14 at ≡ headCall at (fieldAt s at)
+  unfolding fieldAt isWhole headCall
   cut h = simp (lt-leb _ _ h)
 
-  whole : at + 3 + bodyLength s at ≤ length s → accepted (record { tag = byteAt s at; next = at + 3 + bodyLength s at }) ≡ headOf at (fieldAt s at)
-  unfolding fieldAt isWhole headOf
+  whole : at + 3 + bodyLength s at ≤ length s → accepted (record { tag = byteAt s at; next = at + 3 + bodyLength s at }) ≡ headCall at (fieldAt s at)
+  unfolding fieldAt isWhole headCall
   whole h = simp (le-leb _ _ h)
 
   module _ (short : length s ≤ mostBytes) where
-    pub head-cut : length s < at + 3 + bodyLength s at → refusedAt 14 at ≡ headOf (placeIn s at) (fieldIn s at)
+    pub head-cut : length s < at + 3 + bodyLength s at → refusedAt 14 at ≡ headCall (placeIn s at) (fieldIn s at)
     head-cut h = rw (head-in s at short) (cut h)
 
     pub head-whole : at + 3 + bodyLength s at ≤ length s
-        → accepted (record { tag = byteAt s at; next = at + 3 + bodyLength s at }) ≡ headOf (placeIn s at) (fieldIn s at)
+        → accepted (record { tag = byteAt s at; next = at + 3 + bodyLength s at }) ≡ headCall (placeIn s at) (fieldIn s at)
     head-whole h = rw (head-in s at short) (whole h)
 
   -- where a whole field's body stands
   pub record Placed (next : ℕ) : Type 0 where
     pub starts : at + 3 ≤ next
     pub ends : next ≤ length s
-    pub held : part (at + 3) (next - (at + 3)) s ≡ bodyOf (fieldIn s at)
+    pub held : part (at + 3) (next - (at + 3)) s ≡ bodyCall (fieldIn s at)
 
-  pub body-placed : (tag next : ℕ) → accepted (record { tag = tag; next = next }) ≡ headOf (placeIn s at) (fieldIn s at) → Placed next
-  unfolding fieldAt isWhole headOf bodyOf
+  pub body-placed : (tag next : ℕ) → accepted (record { tag = tag; next = next }) ≡ headCall (placeIn s at) (fieldIn s at) → Placed next
+  unfolding fieldAt isWhole headCall bodyCall
   body-placed tag next told =
-      let short = field-short s at _ (field-of (placeIn s at) (fieldIn s at) tag next (bodyOf (fieldIn s at)) told refl) in
+      let short = field-short s at _ (field-of (placeIn s at) (fieldIn s at) tag next (bodyCall (fieldIn s at)) told refl) in
       let h = told ∙ head-in s at short in
       let w = go (isWhole s at) h in
       let k : at + 3 + bodyLength s at ≤ length s = leb-true _ _ w in
       let e : fieldAt s at ≡ some given = ap (λ (b : Bool). cond b (some given) none) w in
-      let n : next ≡ at + 3 + bodyLength s at = ap (λ (a : Head). a .next) (accepted-same (h ∙ ap (headOf at) e)) in
+      let n : next ≡ at + 3 + bodyLength s at = ap (λ (a : Head). a .next) (accepted-same (h ∙ ap (headCall at) e)) in
       record {
         starts = omega arith;
         ends = omega arith;
         held = rw (field-in s at short, n, add-sub-cancel-left, e) refl;
       }
     where
-      go : (b : Bool) → accepted (record { tag = tag; next = next }) ≡ headOf at (cond b (some given) none) → b ≡ true
+      go : (b : Bool) → accepted (record { tag = tag; next = next }) ≡ headCall at (cond b (some given) none) → b ≡ true
       go true k = refl
       go false k = absurd (refusedAt-accepted (sym k))
 
 -- a field without a head is none
-pub field-none : (at : ℕ) (f : Option Field) {n i : ℕ} → refusedAt n i ≡ headOf at f → f ≡ none
-unfolding headOf
+pub field-none : (at : ℕ) (f : Option Field) {n i : ℕ} → refusedAt n i ≡ headCall at f → f ≡ none
+unfolding headCall
 field-none at none h = refl
 field-none at (some f) h = absurd (refusedAt-accepted h)
 
 -- ---- the start field, as it is answered
 
 module _ (limit : ℕ) where
-  pub start-cut : (at : ℕ) (f : Option Field) {n i : ℕ} → refusedAt n i ≡ headOf at f → refusedAt 14 0 ≡ startOf (startWidth limit f)
-  unfolding startWidth startOf
+  pub start-cut : (at : ℕ) (f : Option Field) {n i : ℕ} → refusedAt n i ≡ headCall at f → refusedAt 14 0 ≡ startCall (startWidth limit f)
+  unfolding startWidth startCall
   start-cut at f h = rw (field-none at f h)
 
-  pub start-tag : (at : ℕ) (f : Option Field) (tag next : ℕ) → accepted (record { tag = tag; next = next }) ≡ headOf at f → (tag ≡ 1 → ⊥)
-      → refusedAt 14 0 ≡ startOf (startWidth limit f)
-  unfolding startWidth startOf
-  start-tag at f tag next h other = rw (field-of at f tag next (bodyOf f) h refl, ne-eqb tag 1 other)
+  pub start-tag : (at : ℕ) (f : Option Field) (tag next : ℕ) → accepted (record { tag = tag; next = next }) ≡ headCall at f → (tag ≡ 1 → ⊥)
+      → refusedAt 14 0 ≡ startCall (startWidth limit f)
+  unfolding startWidth startCall
+  start-tag at f tag next h other = rw (field-of at f tag next (bodyCall f) h refl, ne-eqb tag 1 other)
 
-  module _ (at : ℕ) (f : Option Field) (tag next : ℕ) (body : List ℕ) (h : accepted (record { tag = tag; next = next }) ≡ headOf at f) (b : body ≡ bodyOf f) (one : tag ≡ 1) where
-    pub start-size : (length body ≡ 1 → ⊥) → refusedAt 14 0 ≡ startOf (startWidth limit f)
-    unfolding startWidth startOf
+  module _ (at : ℕ) (f : Option Field) (tag next : ℕ) (body : List ℕ) (h : accepted (record { tag = tag; next = next }) ≡ headCall at f) (b : body ≡ bodyCall f) (one : tag ≡ 1) where
+    pub start-size : (length body ≡ 1 → ⊥) → refusedAt 14 0 ≡ startCall (startWidth limit f)
+    unfolding startWidth startCall
     start-size other = rw (field-of at f tag next body h b, eq-eqb tag 1 one, ne-eqb (length body) 1 other)
 
     module _ (size : length body ≡ 1) where
-      pub start-wide : limit < byteAt body 0 → refusedAt 14 0 ≡ startOf (startWidth limit f)
-      unfolding startWidth startOf
+      pub start-wide : limit < byteAt body 0 → refusedAt 14 0 ≡ startCall (startWidth limit f)
+      unfolding startWidth startCall
       start-wide wide = rw (field-of at f tag next body h b, eq-eqb tag 1 one, eq-eqb (length body) 1 size, lt-leb (byteAt body 0) limit wide)
 
-      pub start-good : byteAt body 0 ≤ limit → accepted (byteAt body 0) ≡ startOf (startWidth limit f)
-      unfolding startWidth startOf
+      pub start-good : byteAt body 0 ≤ limit → accepted (byteAt body 0) ≡ startCall (startWidth limit f)
+      unfolding startWidth startCall
       start-good within = rw (field-of at f tag next body h b, eq-eqb tag 1 one, eq-eqb (length body) 1 size, le-leb (byteAt body 0) limit within)

@@ -1,4 +1,4 @@
--- What the answer of `start` says about a run. Assumes nothing.
+-- What the answer of `start` says about a run.
 use mathlib.Core.Path.{_≡_, refl, sym, ap, _∙_}
 use mathlib.Core.Bool.{Bool, true, false, cond}
 use mathlib.Core.List.{List}
@@ -14,15 +14,15 @@ use Rattle.runlaws.specs.Run.{startWidth, runOf}
 use Rattle.runlaws.specs.WholeRun.{run-long, run-unbegun}
 use Rattle.fields.specs.declared.StartAnswer.{StartAnswer}
 use Rattle.fields.specs.declared.StartAnswer.the-variants.{Width, NoStart}
-use Rattle.fields.specs.Told.{fieldIn, startTold, startOf}
+use Rattle.fields.specs.Meaning.{fieldIn, startAnswerOf, startCall}
 
-start-some : (o : Option ℕ) (n : ℕ) → accepted n ≡ startOf o → o ≡ some n
-unfolding startOf
+start-some : (o : Option ℕ) (n : ℕ) → accepted n ≡ startCall o → o ≡ some n
+unfolding startCall
 start-some none n e = absurd (refusedAt-accepted (sym e))
 start-some (some m) n e = ap some (accepted-same (sym e))
 
-start-none : (o : Option ℕ) → refusedAt 14 0 ≡ startOf o → o ≡ none
-unfolding startOf
+start-none : (o : Option ℕ) → refusedAt 14 0 ≡ startCall o → o ≡ none
+unfolding startCall
 start-none none e = refl
 start-none (some n) e = absurd (refusedAt-accepted e)
 
@@ -44,11 +44,11 @@ module _ (limit : ℕ) (s : List ℕ) where
       go true h e = run-long limit s (ltb-true mostBytes (length s) h)
       go false h e = run-unbegun limit s (ltb-false mostBytes (length s) h) e
 
-  module _ {r : StartAnswer} (told : startTold r ≡ startOf (startWidth limit (fieldIn s 0))) where
+  module _ {r : StartAnswer} (told : startAnswerOf r ≡ startCall (startWidth limit (fieldIn s 0))) where
     -- a width: the run is not too long, and its start field gives it
     pub started : {n : ℕ} → r ≡ Width n → (length s ≤ mostBytes) × (startWidth limit (fieldAt s 0) ≡ some n)
-    started {n} is = short-start n (start-some (startWidth limit (fieldIn s 0)) n (ap startTold (sym is) ∙ told))
+    started {n} is = short-start n (start-some (startWidth limit (fieldIn s 0)) n (ap startAnswerOf (sym is) ∙ told))
 
     -- none: the run is refused at its start
     pub unstarted : r ≡ NoStart → runOf limit s ≡ refusedAt 14 0
-    unstarted is = no-start (start-none (startWidth limit (fieldIn s 0)) (ap startTold (sym is) ∙ told))
+    unstarted is = no-start (start-none (startWidth limit (fieldIn s 0)) (ap startAnswerOf (sym is) ∙ told))

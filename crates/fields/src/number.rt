@@ -1,10 +1,10 @@
-// The number of two bytes, little-endian.
+// A byte as a number, and the number of two bytes, little-endian.
 ghost use mathlib.Core.Path.{_≡_};
 ghost use Prim.Native.Nat.{_+_, _*_, _≤_, _<_};
 ghost use lib.ListN.{length};
 ghost use Rattle.runlaws.specs.Bytes.{byteAt};
 
-fn wide(byte: u8) -> u64
+pub fn wide(byte: u8) -> u64
     ensures { λ r. ⌜ (r ≡ byte) × (r < 256) ⌝ }
 {
     byte as u64

@@ -1,4 +1,4 @@
--- Finiteness goes through a negation both ways. Assumes nothing.
+-- Finiteness goes through a negation both ways.
 use mathlib.Core.Path.{_≡_, refl}
 use lib.Ieee.{Float, nan, inf, fin, neg}
 use lib.Ieee.Scale.{finite}

@@ -1,5 +1,5 @@
 -- A float that fits its format is known by its sign and its value. So rounding it again changes nothing, and a zero added, or a factor one,
--- leaves it as it is. Assumes nothing.
+-- leaves it as it is.
 use mathlib.Core.Path.{_≡_, refl, sym, ap, _∙_, subst}
 use mathlib.Core.Bool.{Bool, false, _&&_}
 use Prim.Native.Nat.{ℕ, zero, suc, _+_, _-_, _*_, _%_, _^_, _≤_, _<_}

@@ -1,4 +1,4 @@
--- What is equal to itself is no NaN. Assumes nothing.
+-- What is equal to itself is no NaN.
 use mathlib.Core.Path.{_≡_, subst}
 use mathlib.Core.Bool.{false, not}
 use lib.Dec.{T}

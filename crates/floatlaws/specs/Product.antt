@@ -1,4 +1,4 @@
--- Products: a zero or a one among the factors, and the same for the same. Assumes nothing.
+-- Products: a zero or a one among the factors, and the same for the same.
 use mathlib.Core.Path.{_≡_, refl}
 use mathlib.Core.Bool.{Bool, true, false}
 use Prim.Native.Nat.{zero, suc, _*_}

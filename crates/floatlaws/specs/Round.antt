@@ -1,4 +1,4 @@
--- Zero rounds to zero, and a float rounded again: what is left of it where a zero is added, or where it is multiplied by one. Assumes nothing.
+-- Zero rounds to zero, and a float rounded again: what is left of it where a zero is added, or where it is multiplied by one.
 use mathlib.Core.Path.{_≡_, refl, _∙_}
 use mathlib.Core.Bool.{Bool}
 use Prim.Native.Nat.{ℕ, zero, suc, _*_, _^_, _<_, compare, Ordering·lt, compare·zero-suc}

@@ -1,4 +1,4 @@
--- The laws as lists for the tactics, and terms that change places. Assumes nothing.
+-- The laws as lists for the tactics, and terms that change places.
 use mathlib.Core.Logic.{_⊎_, ⊎-elim}
 use lib.Dec.{T}
 use lib.Ieee.{Float, Format, add, fits}

@@ -1,5 +1,5 @@
 -- Two floats are the `Same` where they are equal, or are both zeros. Laws of sums hold up to this and are no equations: where the terms
--- cancel the sum is +0, and it is +0 again where every term is negated. Assumes nothing.
+-- cancel the sum is +0, and it is +0 again where every term is negated.
 use mathlib.Core.Path.{_≡_, refl, sym, ap, _∙_, subst}
 use mathlib.Core.Bool.{Bool, true, false}
 use mathlib.Core.Logic.{_⊎_, inl, inr, ⊎-elim}

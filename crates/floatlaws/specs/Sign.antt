@@ -1,4 +1,4 @@
--- Negation: twice, of floats that are the same, and through `round` and a product, where it is an equation. Assumes nothing.
+-- Negation: twice, of floats that are the same, and through `round` and a product, where it is an equation.
 use mathlib.Core.Path.{_≡_, refl, sym, ap, _∙_}
 use mathlib.Core.Bool.{Bool, true, false, not, cond}
 use Prim.Native.Nat.{ℕ, zero, suc, _+_, _*_, _^_}

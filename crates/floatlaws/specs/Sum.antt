@@ -1,4 +1,4 @@
--- Sums: the order of the two terms, their signs, a zero among them, and the same for the same. Assumes nothing.
+-- Sums: the order of the two terms, their signs, a zero among them, and the same for the same.
 use mathlib.Core.Path.{_≡_, refl, sym, _∙_}
 use mathlib.Core.Bool.{Bool, true, false, not, _&&_, Bool·beq, cond}
 use Prim.Native.Nat.{ℕ, zero, suc, _+_, _-_, _*_, _≤_, _<_}

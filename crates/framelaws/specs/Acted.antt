@@ -1,4 +1,4 @@
--- A run at binary64 is the formulas on amplitudes, step by step, at that arithmetic. Assumes nothing.
+-- A run at binary64 is the formulas on amplitudes, step by step, at that arithmetic.
 use mathlib.Core.Path.{_≡_, refl, ap, _∙_}
 use mathlib.Core.Bool.{true}
 use mathlib.Core.List.{List, [], _∷_}

@@ -1,4 +1,4 @@
--- Two amplitudes are alike where both parts are the same number, the two zeros counting as equal. Assumes nothing.
+-- Two amplitudes are alike where both parts are the same number, the two zeros counting as equal.
 use mathlib.Core.Path.{_≡_, subst}
 use lib.Dec.{T}
 use lib.Ieee.Scale.{finite}

@@ -1,4 +1,4 @@
--- A list of steps that no row refuses, and a list along which every amplitude is finite. Assumes nothing.
+-- A list of steps that no row refuses, and a list along which every amplitude is finite.
 use mathlib.Core.Path.{_≡_}
 use mathlib.Core.List.{List, [], _∷_}
 use Prim.Native.Nat.{ℕ, _^_, _<_}

@@ -1,4 +1,4 @@
--- The basis that a projection reads, against masks and against xor. Assumes nothing.
+-- The basis that a projection reads, against masks and against xor.
 use mathlib.Core.Path.{_≡_, sym, ap, ap₂, _∙_}
 use Prim.Native.Nat.{ℕ, _+_, _*_, _%_}
 use native.Mathlib.Omega.{arith}

@@ -1,4 +1,4 @@
--- What carrying a Pauli through steps keeps: the widths, the survey, and that no row refuses a step. Assumes nothing.
+-- What carrying a Pauli through steps keeps: the widths, the survey, and that no row refuses a step.
 use mathlib.Core.Path.{_≡_, refl, ap, _∙_}
 use mathlib.Core.List.{List, [], _∷_}
 use Prim.Native.Nat.{ℕ, _+_}
@@ -34,7 +34,7 @@ module _ {R : Type 0} where
   unfolding mixedAmplitudes
   mixed-carried n = flagless-carried (mixedAmplitudes n) (λ P sign sign' c s. refl) (λ M p v v' invnorm. refl)
 
-  surveyed-carried : (v : Survey) (Q : Pauli) (t : Step R) → surveyed v (carriedStep Q t) ≡ surveyed v t
+  pub surveyed-carried : (v : Survey) (Q : Pauli) (t : Step R) → surveyed v (carriedStep Q t) ≡ surveyed v t
   unfolding surveyed
   surveyed-carried v Q t = rw (after-carried (v .width) Q t, mixed-carried (v .width) Q t)
 

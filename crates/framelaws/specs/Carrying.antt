@@ -1,4 +1,4 @@
--- A Pauli carried through steps: what becomes of each step's sign or branch, and of the Pauli. Assumes nothing.
+-- A Pauli carried through steps: what becomes of each step's sign or branch, and of the Pauli.
 use mathlib.Core.Bool.{Bool, true, false}
 use mathlib.Core.List.{List, [], _∷_}
 use Prim.Native.Nat.{ℕ, suc, _+_, _*_, _%_}

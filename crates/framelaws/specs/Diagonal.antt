@@ -1,4 +1,4 @@
--- A Pauli goes past a projection without an X part, before invnorm. Assumes nothing.
+-- A Pauli goes past a projection without an X part, before invnorm.
 use mathlib.Core.Path.{_≡_, refl, sym, ap, _∙_}
 use Prim.Native.Nat.{ℕ, zero, suc, _+_, _*_, _%_, _^_, _≤_, _<_}
 use native.Mathlib.Omega.{arith}

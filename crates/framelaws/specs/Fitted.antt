@@ -1,4 +1,4 @@
--- A Pauli on the state's qubits stays one as it is carried, up to the end, where no row refuses a step. Assumes nothing.
+-- A Pauli on the state's qubits stays one as it is carried, up to the end, where no row refuses a step.
 use mathlib.Core.Path.{_≡_, refl, sym, ap, _∙_, subst}
 use mathlib.Core.Bool.{Bool, true, false}
 use mathlib.Core.List.{List, [], _∷_}
@@ -19,11 +19,11 @@ use Rattle.framelaws.specs.Passing.{promotion-below, projection-measurab
 
 -- ---- what carrying does to a Pauli
 
-raised-fitting : (e : ℕ) {P : Pauli} → Fitting P → Fitting (raised e P)
+pub raised-fitting : (e : ℕ) {P : Pauli} → Fitting P → Fitting (raised e P)
 unfolding raised
 raised-fitting e {P} f = record { phase = phase-small (P .k + e); xs = f .xs; zs = f .zs }
 
-widened-fitting : {P : Pauli} → Fitting P → Fitting (widened P)
+pub widened-fitting : {P : Pauli} → Fitting P → Fitting (widened P)
 unfolding widened
 widened-fitting {P} f = record {
   phase = f .phase;
@@ -54,7 +54,7 @@ module _ (M : Pauli) (v : ℕ) (Q : Pauli) where
   absorbed-fitting false e f g = g
 
   -- and without the pivot's qubit
-  remaining-fitting : (t : Bool) (p : ℕ) → p < Q .n → M .n ≡ Q .n → Fitting M → Fitting Q → Fitting (dropped p (absorbed t M v Q))
+  pub remaining-fitting : (t : Bool) (p : ℕ) → p < Q .n → M .n ≡ Q .n → Fitting M → Fitting Q → Fitting (dropped p (absorbed t M v Q))
   remaining-fitting t p h e f g = dropped-fitting p (omega (arith, absorbed-width t)) (absorbed-fitting t e f g)
 
 -- ---- past a step, and past all

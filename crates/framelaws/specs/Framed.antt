@@ -1,4 +1,4 @@
--- Two states of n qubits that differ by a Pauli Q, up to the sign of a zero: F is Q applied to G. Assumes nothing.
+-- Two states of n qubits that differ by a Pauli Q, up to the sign of a zero: F is Q applied to G.
 use Prim.Native.Nat.{ℕ, _+_, _*_, _^_, _<_}
 use lib.Bits.{bitXor}
 use Rattle.bitlaws.specs.Parity.{overlap}

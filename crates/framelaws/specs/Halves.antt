@@ -1,4 +1,4 @@
--- A projection's coefficient is 1 / sqrt 2, turned; so its two amplitudes are scaled alike, and their sum is the same in either order. Assumes nothing.
+-- A projection's coefficient is 1 / sqrt 2, turned; so its two amplitudes are scaled alike, and their sum is the same in either order.
 use mathlib.Core.Path.{_≡_, refl, sym, ap, ap₂, _∙_}
 use mathlib.Core.Logic.{_⊎_, inl, inr, ⊎-elim}
 use mathlib.Core.Bool.{false}
@@ -26,7 +26,7 @@ use Rattle.framelaws.specs.Turning.{direction-suc, alike-mixed}
 -- ---- the coefficient
 
 -- 1 / sqrt 2
-abbrev root : Point
+abbrev pub root : Point
 root = record { re = binary .h; im = binary .nought }
 
 coefficient-turns : (k : ℕ) → k ≤ 3 → Alike (projectionCoefficient binary k) (turns (3 * k) root)
@@ -42,7 +42,8 @@ unfolding direction ofBits
 direction-zero = refl
 
 -- times 1 or -1
-direction-turns : (a : ℕ) (u : Point) → T (fits binary64 (u .re)) → T (fits binary64 (u .im)) → Alike (scale binary (direction binary a) u) (turns (2 * a) u)
+pub direction-turns : (a : ℕ) (u : Point) → T (fits binary64 (u .re)) → T (fits binary64 (u .im))
+    → Alike (scale binary (direction binary a) u) (turns (2 * a) u)
 unfolding scale
 direction-turns zero u r i = rw direction-zero (alike-eq (point-same (mul-one-fits binary64 (u .re) r) (mul-one-fits binary64 (u .im) i)))
 direction-turns (suc a) u r i =
@@ -59,7 +60,7 @@ signed-turns a k h =
 -- ---- the coefficient's turns are the second amplitude's
 
 -- real or imaginary
-abbrev OnAxis : Point → Type 0
+abbrev pub OnAxis : Point → Type 0
 OnAxis u = T (isZero (u .re)) ⊎ T (isZero (u .im))
 
 axis-turns : (e : ℕ) (u : Point) → OnAxis u → OnAxis (turns e u)
@@ -80,7 +81,8 @@ mixed-axis c u p q f a = record {
       (⊎-elim (λ h. inr (mul-zero-left binary64 (u .re) (q .re) h (f .0))) (λ h. inl (zero-term (u .im) (q .im) h (f .1))) a));
 }
 
-mixed-axes : (c : Float) (e : ℕ) (u p q : Point) → Finite q → OnAxis u → Alike (mixed binary c (turns e u) p q) (mixed binary c u p (turns e q))
+pub mixed-axes : (c : Float) (e : ℕ) (u p q : Point) → Finite q → OnAxis u
+    → Alike (mixed binary c (turns e u) p q) (mixed binary c u p (turns e q))
 mixed-axes c zero u p q f a = alike
 mixed-axes c (suc e) u p q f a =
     let again : turns e (turn q) ≡ turns (suc e) q = turns-turns e 1 1 e q (ap (λ (n : ℕ). n % 4) (omega arith)) in
@@ -90,23 +92,23 @@ mixed-axes c (suc e) u p q f a =
 -- ---- the sum
 
 -- each times 1 / sqrt 2, and added
-abbrev halves : Point → Point → Point
+abbrev pub halves : Point → Point → Point
 halves p q = record {
   re = add binary64 (mul binary64 (binary .h) (p .re)) (mul binary64 (binary .h) (q .re));
   im = add binary64 (mul binary64 (binary .h) (p .im)) (mul binary64 (binary .h) (q .im));
 }
 
-halves-comm : (p q : Point) → halves p q ≡ halves q p
+pub halves-comm : (p q : Point) → halves p q ≡ halves q p
 halves-comm p q = point-same (add-comm-float binary64 _ _) (add-comm-float binary64 _ _)
 
-halves-turns : (e : ℕ) (p q : Point) → Alike (halves (turns e p) (turns e q)) (turns e (halves p q))
+pub halves-turns : (e : ℕ) (p q : Point) → Alike (halves (turns e p) (turns e q)) (turns e (halves p q))
 halves-turns zero p q = alike
 halves-turns (suc e) p q = alike-trans (once (turns e p) (turns e q)) (alike-turn (halves-turns e p q))
   where
     once : (p q : Point) → Alike (halves (turn p) (turn q)) (turn (halves p q))
     once p q = record { res = simp Sign·simp (add-neg binary64 _ _); ims = same }
 
-nought-zero : T (isZero (binary .nought))
+pub nought-zero : T (isZero (binary .nought))
 unfolding ofBits
 nought-zero = tt
 
@@ -114,7 +116,7 @@ nought-zero = tt
 last-zero : (a b z : Float) → T (isZero z) → Same (add binary64 (add binary64 a b) z) (add binary64 a b)
 last-zero a b z h = add-none-right binary64 (add binary64 a b) z (add-fits binary64 a b) h
 
-mixed-root : (p q : Point) → Finite q → Alike (mixed binary (binary .h) root p q) (halves p q)
+pub mixed-root : (p q : Point) → Finite q → Alike (mixed binary (binary .h) root p q) (halves p q)
 unfolding mixed sub
 mixed-root p q f =
     let times : Float → Float = mul binary64 (binary .h) in

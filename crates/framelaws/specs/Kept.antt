@@ -1,4 +1,4 @@
--- What steps keep of the four buffers, their lengths and so their room, and what is read where amplitudes were written. Assumes nothing.
+-- What steps keep of the four buffers, their lengths and so their room, and what is read where amplitudes were written.
 use mathlib.Core.Path.{_≡_, refl, _∙_}
 use mathlib.Core.Bool.{Bool, true, false}
 use mathlib.Core.List.{List, [], _∷_}

@@ -19,5 +19,7 @@ pub mod Surveyed
 pub mod Carried
 pub mod Passing
 pub mod Fitted
+pub mod PassRow
+pub mod Suited
 pub mod List
 pub mod Acted

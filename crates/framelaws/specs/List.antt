@@ -1,4 +1,4 @@
--- A Pauli goes past a list of steps: applied before them, or as carried after the carried ones, it leaves the same state. Assumes nothing.
+-- A Pauli goes past a list of steps: applied before them, or as carried after the carried ones, it leaves the same state.
 use mathlib.Core.Path.{_≡_, refl, sym, ap, _∙_, subst}
 use mathlib.Core.Bool.{true}
 use mathlib.Core.List.{List, [], _∷_}
@@ -32,13 +32,13 @@ use Rattle.framelaws.specs.Passing.{rotation-fitting, correction-fitting
 use Rattle.framelaws.specs.Fitted.{fitting-passed, fitting-end}
 
 -- only the amplitudes of the n qubits count
-framed-only : (n : ℕ) (Q : Pauli) {F F′ G G′ : ℕ → Point} → Q .x < 2 ^ n → ((b : ℕ) → b < 2 ^ n → F′ b ≡ F b) → ((b : ℕ) → b < 2 ^ n → G′ b ≡ G b)
-    → Framed n Q F G → Framed n Q F′ G′
+pub framed-only : (n : ℕ) (Q : Pauli) {F F′ G G′ : ℕ → Point} → Q .x < 2 ^ n → ((b : ℕ) → b < 2 ^ n → F′ b ≡ F b)
+    → ((b : ℕ) → b < 2 ^ n → G′ b ≡ G b) → Framed n Q F G → Framed n Q F′ G′
 framed-only n Q hx f g w = record { at = λ b hb. rw (f (bitXor b (Q .x)) (xor-lt n b (Q .x) hb hx), g b hb) (w .at b hb) }
 
 module _ (n : ℕ) (Q : Pauli) (F G : ℕ → Point) (S U : State) (hx : Q .x < 2 ^ n) (rs : room n S ≡ true) (ru : room n U ≡ true) where
   -- the frame of two functions is that of the states that they are written in
-  framed-written : (k : ℕ) → k ≡ n → Framed n Q F G → Framed n Q (point (written k F S)) (point (written k G U))
+  pub framed-written : (k : ℕ) → k ≡ n → Framed n Q F G → Framed n Q (point (written k F S)) (point (written k G U))
   framed-written k e w = framed-only n Q hx (point-written k n F S e rs) (point-written k n G U e ru) w
 
 -- ---- one step
@@ -46,7 +46,7 @@ module _ (n : ℕ) (Q : Pauli) (F G : ℕ → Point) (S U : State) (hx : Q .x < 
 module _ (limit n : ℕ) (Q : Pauli) (m u : Memory) (width : Q .n ≡ n) (fits : Fitting Q) (finite : FiniteState n (u .state))
     (w : Framed n Q (point (m .state)) (point (u .state))) where
   -- whatever the two scratches hold
-  past-step : (t : Step Float) → Placed n t → stepRow limit n t ≡ 0 → passed Q t .x < 2 ^ widthAfter n t
+  pub past-step : (t : Step Float) → Placed n t → stepRow limit n t ≡ 0 → passed Q t .x < 2 ^ widthAfter n t
       → room (widthAfter n t) (m .state) ≡ true → room (widthAfter n t) (u .state) ≡ true
       → Framed (widthAfter n t) (passed Q t) (point (stepped n t m .state)) (point (stepped n (carriedStep Q t) u .state))
   unfolding stepRow widthAfter passed carriedStep stepped leaves.rotation leaves.promotion leaves.projection leaves.correction
@@ -93,7 +93,7 @@ framed-ran limit g (t ∷ ts) n Q m u within a f width rm ru wide finite w =
 
 -- ---- Q fired as a correction before the steps, or the carried Q after the carried steps
 
-point-correction : (n : ℕ) (P : Pauli) (S : State) → P .n ≡ n → room n S ≡ true → (b : ℕ) → b < 2 ^ n
+pub point-correction : (n : ℕ) (P : Pauli) (S : State) → P .n ≡ n → room n S ≡ true → (b : ℕ) → b < 2 ^ n
     → point (leaves.correction P S) b ≡ corrected binary P (point S) b
 unfolding leaves.correction
 point-correction n P S e r b hb = point-written (P .n) n (corrected binary P (point S)) S e r b hb

@@ -1,19 +1,11 @@
--- The four lent buffers, and what steps leave in them. Assumes nothing.
+-- What steps leave in the four lent buffers.
 use mathlib.Core.List.{List, [], _∷_}
 use Prim.Native.Nat.{ℕ}
 use lib.Ieee.{Float}
-use Rattle.amplitudelaws.specs.State.{State, stateOf}
+pub use Rattle.amplitudelaws.specs.Memory.{Memory, memoryOf}
 use Rattle.amplitudelaws.specs.Steps as leaves
 use Rattle.amplitudelaws.specs.Step.{Step, widthAfter}
 use Rattle.amplitudelaws.specs.Step.Step.{rotation, promotion, projection, correction}
-
--- the state, and the scratch that a projection with an X part makes its result in
-pub record Memory : Type 0 where
-  pub state : State
-  pub scratch : State
-
-abbrev pub memoryOf : List Float → List Float → List Float → List Float → Memory
-memoryOf re im scratchRe scratchIm = record { state = stateOf re im; scratch = stateOf scratchRe scratchIm }
 
 -- the step's own definition on the state of n qubits, and what it leaves in the scratch
 unfoldable pub stepped : ℕ → Step Float → Memory → Memory

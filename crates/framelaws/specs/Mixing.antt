@@ -1,4 +1,4 @@
--- A Pauli goes past a projection with an X part, before invnorm. Assumes nothing.
+-- A Pauli goes past a projection with an X part, before invnorm.
 use mathlib.Core.Path.{_≡_, refl, sym, ap, _∙_}
 use mathlib.Core.Bool.{false}
 use Prim.Native.Nat.{ℕ, suc, _+_, _*_, _%_, _^_, _≤_, _<_}

@@ -1,4 +1,4 @@
--- What is known of a step that no row refuses. Assumes nothing.
+-- What is known of a step that no row refuses.
 use mathlib.Core.Path.{_≡_}
 use mathlib.Core.Bool.{true, not}
 use Prim.Native.Nat.{ℕ, _≤_, _<_}

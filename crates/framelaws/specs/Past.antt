@@ -1,4 +1,4 @@
--- A frame goes past a correction, a rotation and a promotion, and what a correction has to do with a frame. Nothing need be finite. Assumes nothing.
+-- A frame goes past a correction, a rotation and a promotion, and what a correction has to do with a frame. Nothing need be finite.
 use mathlib.Core.Path.{_≡_, ap, _∙_}
 use mathlib.Core.Bool.{Bool, true, false}
 use mathlib.Core.Logic.{⊎-elim}
@@ -25,7 +25,8 @@ use Rattle.framelaws.specs.Turns.{turns, turns-turns, quarters-turns, al
 use Rattle.framelaws.specs.Turning.{steady, paired, scale-steady, raised-steady, rotatedAlone-steady, rotatedWith-pairing, mixed-pairing}
 use Rattle.framelaws.specs.Framed.{Framed}
 
-corrected-turns : (P : Pauli) (F : ℕ → Point) (b : ℕ) → corrected binary P F b ≡ turns (P .k + 2 * overlap (bitXor b (P .x)) (P .z)) (F (bitXor b (P .x)))
+pub corrected-turns : (P : Pauli) (F : ℕ → Point) (b : ℕ)
+    → corrected binary P F b ≡ turns (P .k + 2 * overlap (bitXor b (P .x)) (P .z)) (F (bitXor b (P .x)))
 unfolding corrected
 corrected-turns P F b = quarters-turns (P .k + 2 * overlap (bitXor b (P .x)) (P .z)) (F (bitXor b (P .x)))
 

@@ -1,4 +1,4 @@
--- Exponents of i where a Pauli Q goes past a projection of M: sums over plain numbers, modulo 4. Assumes nothing.
+-- Exponents of i where a Pauli Q goes past a projection of M: sums over plain numbers, modulo 4.
 use mathlib.Core.Path.{_≡_, sym, ap, _∙_}
 use Prim.Native.Nat.{ℕ, _+_, _*_, _%_}
 use native.Mathlib.Omega.{arith}

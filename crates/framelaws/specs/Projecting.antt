@@ -1,5 +1,5 @@
 -- A Pauli goes past a projection: the branch is flipped where it anticommutes with the measured Pauli, which it absorbs where it has the
--- deciding part at the pivot, and it loses the pivot's qubit. Assumes nothing.
+-- deciding part at the pivot, and it loses the pivot's qubit.
 use mathlib.Core.Path.{_≡_, refl}
 use mathlib.Core.Bool.{Bool, true, false, cond}
 use mathlib.Core.Logic.{⊎-elim}

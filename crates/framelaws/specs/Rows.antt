@@ -1,4 +1,4 @@
--- Which row of the table refuses a step, lowest number first; 0 where none does. Assumes nothing.
+-- Which row of the table refuses a step, lowest number first; 0 where none does.
 use mathlib.Core.Bool.{not}
 use Prim.Native.Nat.{ℕ}
 use lib.Dec.{leb, ltb}

@@ -1,4 +1,4 @@
--- Where a list of steps ends, and how much room it needs on the way. Assumes nothing.
+-- Where a list of steps ends, and how much room it needs on the way.
 use mathlib.Core.Bool.{cond}
 use mathlib.Core.List.{List, [], _∷_}
 use Prim.Native.Nat.{ℕ, _+_, _-_, _^_, max}

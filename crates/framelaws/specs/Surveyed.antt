@@ -1,5 +1,5 @@
 -- What the survey of a list of steps says: the last width, the number of steps, and the greatest of two numbers on the way, the width and the amplitudes that a
--- projection makes in the scratch. Assumes nothing.
+-- projection makes in the scratch.
 use mathlib.Core.Path.{_≡_, refl, ap, _∙_}
 use mathlib.Core.List.{List, [], _∷_}
 use Prim.Native.Nat.{ℕ, _+_, _≤_, max}

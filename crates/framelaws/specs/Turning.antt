@@ -1,4 +1,4 @@
--- Which formulas turn with their amplitudes, up to the sign of a zero. Assumes nothing.
+-- Which formulas turn with their amplitudes, up to the sign of a zero.
 use mathlib.Core.Path.{_≡_, refl, sym, ap, _∙_}
 use mathlib.Core.Bool.{Bool, true, false, not, cond}
 use Prim.Native.Nat.{ℕ, zero, suc, _+_, _*_, _%_, _<_}

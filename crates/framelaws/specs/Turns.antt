@@ -1,4 +1,4 @@
--- An amplitude turned by quarters any number of times, i^e a for every e: only e modulo 4 counts. Assumes nothing.
+-- An amplitude turned by quarters any number of times, i^e a for every e: only e modulo 4 counts.
 use mathlib.Core.Path.{_≡_, refl, sym, ap, _∙_}
 use Prim.Native.Nat.{ℕ, zero, suc, _+_, _*_, _/_, _%_, _<_}
 use native.Mathlib.Nat.{div-add-mod', mod-lt, zero-add, zero-lt-suc}

@@ -8,10 +8,10 @@ use kernels::ActivePauliAction;
 use kernels::MeasurementKernelAnswer;
 use kernels::PrecomputedActivePauliMeasurementKernel;
 use kernels::RotationKernelAnswer;
-use kernels::StepAnswer;
 use libc::STDOUT_FILENO;
 use measurement::ProbabilityAnswer;
 use pauli_calls::show;
+use rows::StepAnswer;
 
 pub(crate) fn done() {
     io::write_all(STDOUT_FILENO, b"done");

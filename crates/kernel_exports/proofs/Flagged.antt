@@ -1,5 +1,4 @@
 -- Where neither a call's own rows nor row 14 refuses, the first of them is the call's own, and the flag is the bit that stands for it.
--- Assumes nothing.
 use mathlib.Core.Path.{_≡_, sym, _∙_}
 use Prim.Native.Nat.{ℕ}
 use native.Mathlib.Omega.{arith}

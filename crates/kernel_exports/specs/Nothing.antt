@@ -1,4 +1,4 @@
--- The action and the kernels that stand beside a refusal: every number of theirs is 0. Assumes nothing.
+-- The action and the kernels that stand beside a refusal: every number of theirs is 0.
 use mathlib.Core.Bool.{false}
 use lib.Ieee.{Float, binary64, ofBits}
 use Rattle.amplitudelaws.specs.Binary.{Point}

@@ -27,12 +27,15 @@ use verdicts::Verdict;
 ghost use mathlib.Core.Path.{_≡_};
 ghost use mathlib.Core.Bool.{false};
 ghost use Prim.Native.Nat.{_%_};
-ghost use Rattle.answers.specs.Row.{first, answered, left};
+ghost use Rattle.answers.specs.Outcome.{byRow, finished};
+ghost use Rattle.answers.specs.Row.{first, answered};
 ghost use Rattle.paulilaws.specs.Pauli as book;
 ghost use Rattle.amplitudelaws.specs.Arithmetic as formula;
 ghost use Rattle.amplitudelaws.specs.Binary.{binary};
-ghost use Rattle.amplitudelaws.specs.Rows.{actionRow, rotationKernelRow, measurementRow, rotationRow, promotionRow, probabilityRow, projectionRow, correctionRow};
-ghost use Rattle.amplitudelaws.specs.State.{stateOf};
+ghost use Rattle.amplitudelaws.specs.Calls.{promoting, projectedMemory, correcting};
+ghost use Rattle.amplitudelaws.specs.Lent.{state, memory};
+ghost use Rattle.amplitudelaws.specs.Rows.{actionRow, rotationKernelRow, measurementRow};
+ghost use Rattle.amplitudelaws.specs.Rows.{rotationRow, probabilityRow, projectionRow};
 ghost use Rattle.amplitudelaws.specs.Steps as steps;
 ghost use Rattle.complex.specs.Complex.{complexOf};
 ghost use Rattle.paulis.specs.Strings.{pauliOf};
@@ -40,7 +43,8 @@ ghost use Rattle.paulis.specs.Calls.{bitCall};
 ghost use Rattle.pauligroup.specs.Calls.{productCall, anticommutesCall, squaresCall};
 ghost use Rattle.activepauli.specs.Active.{activeOf};
 ghost use Rattle.activepauli.specs.Calls.{raisedCall, droppedCall};
-ghost use Rattle.kernels.specs.Kernel.{actionMeant, actionOf, rotationMeant, rotationOf, measurementMeant, measurementOf, defaultPivot, finished};
+ghost use Rattle.kernels.specs.Kernel.{actionOf, pauliAction, rotationKernelOf, rotationKernel};
+ghost use Rattle.kernels.specs.Kernel.{measurementKernelOf, measurementKernel, defaultPivot};
 ghost use Rattle.verdicts.specs.Flag.{flagRow};
 ghost use Rattle.verdicts.specs.Verdict.{verdictOf, Seen};
 ghost use Rattle.kernel_exports.specs.Nothing.{noFloat, noAction, noRotation, noMeasurement};
@@ -103,7 +107,8 @@ pub extern "C" fn naribhush_phase_factor(phase: u8) -> Complex64
 
 #[no_mangle]
 pub extern "C" fn naribhush_action(pauli: PauliString) -> SeenAction
-    ensures { λ r. ⌜ Seen (r .verdict) (actionMeant (r .action)) noAction (answered (actionRow (pauliOf pauli)) (actionOf (pauliOf pauli))) ⌝ }
+    ensures { λ r. let P = pauliOf pauli in
+        ⌜ Seen (r .verdict) (actionOf (r .action)) noAction (answered (actionRow P) (pauliAction P)) ⌝ }
 {
     seen::action(ActivePauliAction::new(pauli))
 }
@@ -114,21 +119,28 @@ pub extern "C" fn naribhush_rotation_kernel(
     c: f64,
     s: f64,
 ) -> SeenRotationKernel
-    ensures { λ r. ⌜ Seen (r .verdict) (rotationMeant (r .kernel)) noRotation (answered (rotationKernelRow (activeOf pauli) c s) (rotationOf (activeOf pauli) c s)) ⌝ }
+    ensures { λ r. let P = activeOf pauli in
+        let made = answered (rotationKernelRow P c s) (rotationKernel P c s) in
+        ⌜ Seen (r .verdict) (rotationKernelOf (r .kernel)) noRotation made ⌝ }
 {
     seen::rotation(PrecomputedActivePauliRotationKernel::new(pauli, c, s))
 }
 
 #[no_mangle]
 pub extern "C" fn naribhush_from_pauli(pauli: ActivePauli) -> SeenMeasurementKernel
-    ensures { λ r. ⌜ Seen (r .verdict) (measurementMeant (r .kernel)) noMeasurement (answered (measurementRow (activeOf pauli) (defaultPivot (activeOf pauli)) false) (measurementOf (activeOf pauli) (defaultPivot (activeOf pauli)))) ⌝ }
+    ensures { λ r. let M = activeOf pauli in
+        let p = defaultPivot M in
+        let made = answered (measurementRow M p false) (measurementKernel M p) in
+        ⌜ Seen (r .verdict) (measurementKernelOf (r .kernel)) noMeasurement made ⌝ }
 {
     seen::measurement(PrecomputedActivePauliMeasurementKernel::from_pauli(pauli))
 }
 
 #[no_mangle]
 pub extern "C" fn naribhush_with_pivot(pauli: ActivePauli, pivot: usize) -> SeenMeasurementKernel
-    ensures { λ r. ⌜ Seen (r .verdict) (measurementMeant (r .kernel)) noMeasurement (answered (measurementRow (activeOf pauli) pivot false) (measurementOf (activeOf pauli) pivot)) ⌝ }
+    ensures { λ r. let M = activeOf pauli in
+        let made = answered (measurementRow M pivot false) (measurementKernel M pivot) in
+        ⌜ Seen (r .verdict) (measurementKernelOf (r .kernel)) noMeasurement made ⌝ }
 {
     seen::measurement(PrecomputedActivePauliMeasurementKernel::with_pivot(pauli, pivot))
 }
@@ -143,10 +155,10 @@ pub extern "C" fn naribhush_rotate(
     c: f64,
     s: f64,
 ) -> Verdict
-    ensures { λ r. ⌜ (let S = stateOf (now (re .entry)) (now (im .entry)) in
-        let row = first (rotationRow (activeOf pauli) c s S) (flagRow sign) in
-        (r ≡ verdictOf (answered row finished))
-        × (stateOf (now (re .exit)) (now (im .exit)) ≡ left row (steps.rotation (activeOf pauli) sign c s S) S)) ⌝ }
+    ensures { λ r. let S = state re im in
+        let row = first (rotationRow (activeOf pauli) c s (S .entry)) (flagRow sign) in
+        let did = byRow row finished (steps.rotation (activeOf pauli) sign c s (S .entry)) (S .entry) in
+        ⌜ (r ≡ verdictOf (did .answer)) × (S .exit ≡ did .lent) ⌝ }
 {
     let own = own::rotation_row(re, im, pauli, c, s);
     let row = rows::first(own, verdicts::flag_row(sign));
@@ -164,8 +176,9 @@ pub extern "C" fn naribhush_promote(
     c: f64,
     q: f64,
 ) -> Verdict
-    ensures answer { λ r. ⌜ r ≡ verdictOf (answered (promotionRow nqubits c q (stateOf (now (re .entry)) (now (im .entry)))) finished) ⌝ }
-    ensures state { λ _. ⌜ stateOf (now (re .exit)) (now (im .exit)) ≡ left (promotionRow nqubits c q (stateOf (now (re .entry)) (now (im .entry)))) (steps.promotion nqubits c q (stateOf (now (re .entry)) (now (im .entry)))) (stateOf (now (re .entry)) (now (im .entry))) ⌝ }
+    ensures { λ r. let S = state re im in
+        let did = promoting nqubits c q (S .entry) in
+        ⌜ (r ≡ verdictOf (did .answer)) × (S .exit ≡ did .lent) ⌝ }
 {
     seen::step(promotion::promote_contiguous_active(re, im, nqubits, c, q))
 }
@@ -179,9 +192,9 @@ pub extern "C" fn naribhush_probability(
     pivot: usize,
     branch: u8,
 ) -> SeenProbability
-    ensures { λ r. ⌜ (let S = stateOf (now (re .entry)) (now (im .entry)) in
+    ensures { λ r. let S = state re im .entry in
         let row = first (probabilityRow (activeOf pauli) pivot S) (flagRow branch) in
-        Seen (r .verdict) (r .probability) noFloat (answered row (steps.probability (activeOf pauli) pivot branch S))) ⌝ }
+        ⌜ Seen (r .verdict) (r .probability) noFloat (answered row (steps.probability (activeOf pauli) pivot branch S)) ⌝ }
 {
     let own = own::probability_row(re, im, pauli, pivot);
     let row = rows::first(own, verdicts::flag_row(branch));
@@ -203,15 +216,13 @@ pub extern "C" fn naribhush_project(
     branch: u8,
     invnorm: f64,
 ) -> Verdict
-    ensures { λ r. ⌜ (let S = stateOf (now (re .entry)) (now (im .entry)) in
-        let B = stateOf (now («scratch_re» .entry)) (now («scratch_im» .entry)) in
+    ensures { λ r. let m = memory re im «scratch_re» «scratch_im» in
         let M = activeOf pauli in
-        let row = first (projectionRow M pivot invnorm S B) (flagRow branch) in
-        (r ≡ verdictOf (answered row finished))
-        × (stateOf (now (re .exit)) (now (im .exit)) ≡ left row (steps.projection M pivot branch invnorm S) S)
-        × (stateOf (now («scratch_re» .exit)) (now («scratch_im» .exit)) ≡ left row (steps.scratchAfter M pivot branch invnorm S B) B)) ⌝ }
+        let row = first (projectionRow M pivot invnorm (m .entry .state) (m .entry .scratch)) (flagRow branch) in
+        let did = byRow row finished (projectedMemory M pivot branch invnorm (m .entry)) (m .entry) in
+        ⌜ (r ≡ verdictOf (did .answer)) × (m .exit ≡ did .lent) ⌝ }
 {
-    let own = measurement::projection_row(re, im, scratch_re, scratch_im, pauli, pivot, invnorm);
+    let own = own::projection_row(re, im, scratch_re, scratch_im, pauli, pivot, invnorm);
     let row = rows::first(own, verdicts::flag_row(branch));
     if row != 0 {
         return verdicts::refused(row);
@@ -230,8 +241,9 @@ pub extern "C" fn naribhush_project(
 
 #[no_mangle]
 pub extern "C" fn naribhush_correct(re: &mut [f64], im: &mut [f64], pauli: ActivePauli) -> Verdict
-    ensures answer { λ r. ⌜ r ≡ verdictOf (answered (correctionRow (activeOf pauli) (stateOf (now (re .entry)) (now (im .entry)))) finished) ⌝ }
-    ensures state { λ _. ⌜ stateOf (now (re .exit)) (now (im .exit)) ≡ left (correctionRow (activeOf pauli) (stateOf (now (re .entry)) (now (im .entry)))) (steps.correction (activeOf pauli) (stateOf (now (re .entry)) (now (im .entry)))) (stateOf (now (re .entry)) (now (im .entry))) ⌝ }
+    ensures { λ r. let S = state re im in
+        let did = correcting (activeOf pauli) (S .entry) in
+        ⌜ (r ≡ verdictOf (did .answer)) × (S .exit ≡ did .lent) ⌝ }
 {
     seen::step(correction::correct_contiguous_active(re, im, pauli))
 }

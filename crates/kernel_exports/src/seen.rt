@@ -9,16 +9,18 @@ use kernels::MeasurementKernelAnswer;
 use kernels::PrecomputedActivePauliMeasurementKernel;
 use kernels::PrecomputedActivePauliRotationKernel;
 use kernels::RotationKernelAnswer;
-use kernels::StepAnswer;
 use measurement::ProbabilityAnswer;
+use rows::StepAnswer;
 use verdicts::SeenBit;
 use verdicts::Verdict;
 ghost use mathlib.Core.Path.{_≡_};
 ghost use mathlib.Core.Bool.{false};
 ghost use Rattle.paulilaws.specs.Pauli.{identity};
-ghost use Rattle.activepauli.specs.Active.{activeOf, pauliTold, bitTold};
-ghost use Rattle.kernels.specs.Kernel.{actionMeant, actionTold, rotationMeant, rotationTold, measurementMeant, measurementTold, stepTold};
-ghost use Rattle.measurement.specs.Measured.{probabilityTold};
+ghost use Rattle.activepauli.specs.Active.{activeOf, activePauliAnswerOf, activeBitAnswerOf};
+ghost use Rattle.rows.specs.Step.{stepAnswerOf};
+ghost use Rattle.kernels.specs.Kernel.{actionOf, actionAnswerOf, rotationKernelOf, rotationKernelAnswerOf};
+ghost use Rattle.kernels.specs.Kernel.{measurementKernelOf, measurementKernelAnswerOf};
+ghost use Rattle.measurement.specs.Measured.{probabilityAnswerOf};
 ghost use Rattle.verdicts.specs.Verdict.{verdictOf, Seen};
 ghost use Rattle.kernel_exports.specs.Nothing.{noFloat, noAction, noRotation, noMeasurement};
 
@@ -56,7 +58,7 @@ pub struct SeenProbability {
 }
 
 pub(crate) fn bit(answer: ActiveBitAnswer) -> SeenBit
-    ensures { λ r. ⌜ Seen (r .verdict) (r .bit) false (bitTold answer) ⌝ }
+    ensures { λ r. ⌜ Seen (r .verdict) (r .bit) false (activeBitAnswerOf answer) ⌝ }
 {
     match answer {
         ActiveBitAnswer::Bit(bit) => verdicts::bit(bit),
@@ -80,7 +82,7 @@ pub fn no_pauli(verdict: Verdict) -> SeenActivePauli
 }
 
 pub(crate) fn pauli(answer: ActivePauliAnswer) -> SeenActivePauli
-    ensures { λ r. ⌜ Seen (r .verdict) (activeOf (r .pauli)) (identity 0) (pauliTold answer) ⌝ }
+    ensures { λ r. ⌜ Seen (r .verdict) (activeOf (r .pauli)) (identity 0) (activePauliAnswerOf answer) ⌝ }
 {
     match answer {
         ActivePauliAnswer::Pauli(pauli) => SeenActivePauli {
@@ -92,7 +94,7 @@ pub(crate) fn pauli(answer: ActivePauliAnswer) -> SeenActivePauli
 }
 
 fn no_action() -> ActivePauliAction
-    ensures { λ r. ⌜ actionMeant r ≡ noAction ⌝ }
+    ensures { λ r. ⌜ actionOf r ≡ noAction ⌝ }
 {
     ActivePauliAction {
         nqubits: 0,
@@ -105,7 +107,7 @@ fn no_action() -> ActivePauliAction
 }
 
 pub(crate) fn action(answer: ActionAnswer) -> SeenAction
-    ensures { λ r. ⌜ Seen (r .verdict) (actionMeant (r .action)) noAction (actionTold answer) ⌝ }
+    ensures { λ r. ⌜ Seen (r .verdict) (actionOf (r .action)) noAction (actionAnswerOf answer) ⌝ }
 {
     match answer {
         ActionAnswer::Action(action) => SeenAction {
@@ -120,7 +122,7 @@ pub(crate) fn action(answer: ActionAnswer) -> SeenAction
 }
 
 fn no_rotation() -> PrecomputedActivePauliRotationKernel
-    ensures { λ r. ⌜ rotationMeant r ≡ noRotation ⌝ }
+    ensures { λ r. ⌜ rotationKernelOf r ≡ noRotation ⌝ }
 {
     PrecomputedActivePauliRotationKernel {
         action: no_action(),
@@ -134,7 +136,7 @@ fn no_rotation() -> PrecomputedActivePauliRotationKernel
 }
 
 pub(crate) fn rotation(answer: RotationKernelAnswer) -> SeenRotationKernel
-    ensures { λ r. ⌜ Seen (r .verdict) (rotationMeant (r .kernel)) noRotation (rotationTold answer) ⌝ }
+    ensures { λ r. ⌜ Seen (r .verdict) (rotationKernelOf (r .kernel)) noRotation (rotationKernelAnswerOf answer) ⌝ }
 {
     match answer {
         RotationKernelAnswer::Kernel(kernel) => SeenRotationKernel {
@@ -149,7 +151,7 @@ pub(crate) fn rotation(answer: RotationKernelAnswer) -> SeenRotationKernel
 }
 
 fn no_measurement() -> PrecomputedActivePauliMeasurementKernel
-    ensures { λ r. ⌜ measurementMeant r ≡ noMeasurement ⌝ }
+    ensures { λ r. ⌜ measurementKernelOf r ≡ noMeasurement ⌝ }
 {
     PrecomputedActivePauliMeasurementKernel {
         action: no_action(),
@@ -162,7 +164,7 @@ fn no_measurement() -> PrecomputedActivePauliMeasurementKernel
 }
 
 pub(crate) fn measurement(answer: MeasurementKernelAnswer) -> SeenMeasurementKernel
-    ensures { λ r. ⌜ Seen (r .verdict) (measurementMeant (r .kernel)) noMeasurement (measurementTold answer) ⌝ }
+    ensures { λ r. ⌜ Seen (r .verdict) (measurementKernelOf (r .kernel)) noMeasurement (measurementKernelAnswerOf answer) ⌝ }
 {
     match answer {
         MeasurementKernelAnswer::Kernel(kernel) => SeenMeasurementKernel {
@@ -177,7 +179,7 @@ pub(crate) fn measurement(answer: MeasurementKernelAnswer) -> SeenMeasurementKer
 }
 
 pub(crate) fn probability(answer: ProbabilityAnswer) -> SeenProbability
-    ensures { λ r. ⌜ Seen (r .verdict) (r .probability) noFloat (probabilityTold answer) ⌝ }
+    ensures { λ r. ⌜ Seen (r .verdict) (r .probability) noFloat (probabilityAnswerOf answer) ⌝ }
 {
     match answer {
         ProbabilityAnswer::Probability(probability) => SeenProbability {
@@ -193,7 +195,7 @@ pub(crate) fn probability(answer: ProbabilityAnswer) -> SeenProbability
 
 // A call on amplitudes has no value: the state holds it.
 pub(crate) fn step(answer: StepAnswer) -> Verdict
-    ensures { λ r. ⌜ r ≡ verdictOf (stepTold answer) ⌝ }
+    ensures { λ r. ⌜ r ≡ verdictOf (stepAnswerOf answer) ⌝ }
 {
     match answer {
         StepAnswer::Done => verdicts::accepted(),

@@ -1,4 +1,4 @@
--- A mask of up to 64 bits is its first word, and no mask is less than that. Assumes nothing.
+-- A mask of up to 64 bits is its first word, and no mask is less than that.
 use mathlib.Core.Path.{_≡_, sym, ap, _∙_}
 use mathlib.Core.List.{List}
 use Prim.Native.Nat.{ℕ, _%_, _^_, _≤_, _<_}

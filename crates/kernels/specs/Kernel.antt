@@ -1,4 +1,4 @@
--- What an action and the two kernels of a Pauli hold, and what the declared types mean. Assumes nothing.
+-- What an action and the two kernels of a Pauli hold, and what the declared types mean.
 use mathlib.Core.Bool.{Bool, true, not, _&&_}
 use mathlib.Core.Option.{Option, none, some}
 use Prim.Native.Nat.{ℕ, _-_, _^_}
@@ -24,8 +24,6 @@ use Rattle.kernels.specs.declared.RotationKernelAnswer.{RotationKernelAn
 use Rattle.kernels.specs.declared.RotationKernelAnswer.the-variants as turn
 use Rattle.kernels.specs.declared.MeasurementKernelAnswer.{MeasurementKernelAnswer}
 use Rattle.kernels.specs.declared.MeasurementKernelAnswer.the-variants as measure
-use Rattle.kernels.specs.declared.StepAnswer.{StepAnswer}
-use Rattle.kernels.specs.declared.StepAnswer.the-variants as step
 
 pub record Action : Type 0 where
   pub n : ℕ
@@ -64,8 +62,8 @@ highestOrZero n mask = orZero (highest n mask)
 unfoldable pub defaultPivot : Pauli → ℕ
 defaultPivot M = highestOrZero (M .n) (pivotMask M)
 
-unfoldable pub actionOf : Pauli → Action
-actionOf P = record {
+unfoldable pub pauliAction : Pauli → Action
+pauliAction P = record {
   n = P .n;
   x = P .x;
   z = P .z;
@@ -74,9 +72,9 @@ actionOf P = record {
   crossed = eqb (overlap (P .x) (P .z)) 1;
 }
 
-unfoldable pub rotationOf : Pauli → Float → Float → RotationKernel
-rotationOf P c s = record {
-  action = actionOf P;
+unfoldable pub rotationKernel : Pauli → Float → Float → RotationKernel
+rotationKernel P c s = record {
+  action = pauliAction P;
   diagonal = eqb (P .x) 0;
   imaginary = not (eqb (P .x) 0) && eqb (P .z) 0;
   pairBit = highestOrZero (P .n) (P .x);
@@ -85,9 +83,9 @@ rotationOf P c s = record {
   m = rotationCoefficient binary (P .k) s;
 }
 
-unfoldable pub measurementOf : Pauli → ℕ → MeasurementKernel
-measurementOf M p = record {
-  action = actionOf M;
+unfoldable pub measurementKernel : Pauli → ℕ → MeasurementKernel
+measurementKernel M p = record {
+  action = pauliAction M;
   pivot = p;
   diagonal = eqb (M .x) 0;
   minus = eqb (M .x) 0 && eqb (M .k) 2;
@@ -97,8 +95,8 @@ measurementOf M p = record {
 
 -- ---- the declared types
 
-abbrev pub actionMeant : ActivePauliAction → Action
-actionMeant a = record {
+abbrev pub actionOf : ActivePauliAction → Action
+actionOf a = record {
   n = a .nqubits;
   x = a .xmask;
   z = a .zmask;
@@ -107,9 +105,9 @@ actionMeant a = record {
   crossed = a .«xz_overlap_odd»;
 }
 
-abbrev pub rotationMeant : PrecomputedActivePauliRotationKernel → RotationKernel
-rotationMeant r = record {
-  action = actionMeant (r .action);
+abbrev pub rotationKernelOf : PrecomputedActivePauliRotationKernel → RotationKernel
+rotationKernelOf r = record {
+  action = actionOf (r .action);
   diagonal = r .«is_diagonal»;
   imaginary = r .«uniform_imag_pairs»;
   pairBit = r .«pair_bit»;
@@ -118,9 +116,9 @@ rotationMeant r = record {
   m = complexOf (r .«minus_even_coefficient»);
 }
 
-abbrev pub measurementMeant : PrecomputedActivePauliMeasurementKernel → MeasurementKernel
-measurementMeant r = record {
-  action = actionMeant (r .action);
+abbrev pub measurementKernelOf : PrecomputedActivePauliMeasurementKernel → MeasurementKernel
+measurementKernelOf r = record {
+  action = actionOf (r .action);
   pivot = r .pivot;
   diagonal = r .«is_diagonal»;
   minus = r .«diagonal_phase_bit»;
@@ -128,22 +126,14 @@ measurementMeant r = record {
   coefficient = complexOf (r .«nondiagonal_coefficient1_even»);
 }
 
-abbrev pub actionTold : ActionAnswer → Answer Action
-actionTold (act.Action a) = accepted (actionMeant a)
-actionTold (act.Refused n) = refused n
+abbrev pub actionAnswerOf : ActionAnswer → Answer Action
+actionAnswerOf (act.Action a) = accepted (actionOf a)
+actionAnswerOf (act.Refused n) = refused n
 
-abbrev pub rotationTold : RotationKernelAnswer → Answer RotationKernel
-rotationTold (turn.Kernel r) = accepted (rotationMeant r)
-rotationTold (turn.Refused n) = refused n
+abbrev pub rotationKernelAnswerOf : RotationKernelAnswer → Answer RotationKernel
+rotationKernelAnswerOf (turn.Kernel r) = accepted (rotationKernelOf r)
+rotationKernelAnswerOf (turn.Refused n) = refused n
 
-abbrev pub measurementTold : MeasurementKernelAnswer → Answer MeasurementKernel
-measurementTold (measure.Kernel r) = accepted (measurementMeant r)
-measurementTold (measure.Refused n) = refused n
-
--- a call on amplitudes answers no value: the state holds it
-pub data Finished : Type 0 where
-  finished : Finished
-
-abbrev pub stepTold : StepAnswer → Answer Finished
-stepTold step.Done = accepted finished
-stepTold (step.Refused n) = refused n
+abbrev pub measurementKernelAnswerOf : MeasurementKernelAnswer → Answer MeasurementKernel
+measurementKernelAnswerOf (measure.Kernel r) = accepted (measurementKernelOf r)
+measurementKernelAnswerOf (measure.Refused n) = refused n

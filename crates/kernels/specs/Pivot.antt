@@ -1,4 +1,4 @@
--- The highest bit of a mask is in it, so that the pairs of the mask can be counted by it; the pivot that is taken where none is given is such a bit. Assumes nothing.
+-- The highest bit of a mask is in it, so that the pairs of the mask can be counted by it; the pivot that is taken where none is given is such a bit.
 use mathlib.Core.Path.{_≡_, refl}
 use mathlib.Core.Bool.{Bool, true, false, cond}
 use mathlib.Core.Logic.{⊎-elim}

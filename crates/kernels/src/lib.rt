@@ -14,7 +14,10 @@ ghost use Rattle.answers.specs.Row.{answered};
 ghost use Rattle.paulis.specs.Strings.{pauliOf};
 ghost use Rattle.activepauli.specs.Active.{activeOf};
 ghost use Rattle.amplitudelaws.specs.Rows.{actionRow, rotationKernelRow, pivotMask, measurementRow};
-ghost use Rattle.kernels.specs.Kernel.{actionMeant, actionTold, actionOf, rotationMeant, rotationTold, rotationOf, measurementMeant, measurementTold, measurementOf, defaultPivot, highestOrZero};
+ghost use Rattle.kernels.specs.Kernel.{actionOf, actionAnswerOf, pauliAction};
+ghost use Rattle.kernels.specs.Kernel.{rotationKernelOf, rotationKernelAnswerOf, rotationKernel};
+ghost use Rattle.kernels.specs.Kernel.{measurementKernelOf, measurementKernelAnswerOf, measurementKernel};
+ghost use Rattle.kernels.specs.Kernel.{defaultPivot, highestOrZero};
 
 // A Hermitian Pauli reduced to the single-word masks the kernels consume.
 //
@@ -73,16 +76,10 @@ pub enum MeasurementKernelAnswer {
     Refused(u8),
 }
 
-// What a call on amplitudes answers.
-pub enum StepAnswer {
-    Done,
-    Refused(u8),
-}
-
 impl ActivePauliAction {
     // Refused by 3, by 6 past 62 qubits and by 7 where the Pauli is not Hermitian.
     pub fn new(pauli: PauliString) -> ActionAnswer
-        ensures { λ r. ⌜ actionTold r ≡ answered (actionRow (pauliOf pauli)) (actionOf (pauliOf pauli)) ⌝ }
+        ensures { λ r. ⌜ actionAnswerOf r ≡ answered (actionRow (pauliOf pauli)) (pauliAction (pauliOf pauli)) ⌝ }
     {
         if !pauli.is_pauli() {
             return ActionAnswer::Refused(3);
@@ -97,7 +94,7 @@ impl ActivePauliAction {
             z: zmask,
             phase: pauli.phase,
         };
-        let row = rows::hermitian_row(active, 62);
+        let row = rows::hermitian_row(active, rows::WIDEST_ACTION);
         if row != 0 {
             return ActionAnswer::Refused(row);
         }
@@ -107,7 +104,7 @@ impl ActivePauliAction {
 
 fn action(pauli: ActivePauli) -> ActivePauliAction
     requires { ⌜ pauli .phase ≤ 3 ⌝ }
-    ensures { λ r. ⌜ actionMeant r ≡ actionOf (activeOf pauli) ⌝ }
+    ensures { λ r. ⌜ actionOf r ≡ pauliAction (activeOf pauli) ⌝ }
 {
     let even_phase = complex::phase_factor(pauli.phase);
     ActivePauliAction {
@@ -123,7 +120,8 @@ fn action(pauli: ActivePauli) -> ActivePauliAction
 impl PrecomputedActivePauliRotationKernel {
     // The cosine and the sine come from the caller. Refused by 3, by 6 past 61 qubits, by 7 and 8.
     pub fn new(pauli: ActivePauli, c: f64, s: f64) -> RotationKernelAnswer
-        ensures { λ r. ⌜ rotationTold r ≡ answered (rotationKernelRow (activeOf pauli) c s) (rotationOf (activeOf pauli) c s) ⌝ }
+        ensures { λ r. let P = activeOf pauli in
+            ⌜ rotationKernelAnswerOf r ≡ answered (rotationKernelRow P c s) (rotationKernel P c s) ⌝ }
     {
         let row = rows::rotation_row(pauli, c, s);
         if row != 0 {
@@ -135,7 +133,7 @@ impl PrecomputedActivePauliRotationKernel {
 
 fn rotation_kernel(pauli: ActivePauli, c: f64, s: f64) -> PrecomputedActivePauliRotationKernel
     requires { ⌜ (pauli .phase ≤ 3) × (pauli .x < 2 ^ pauli .nqubits) ⌝ }
-    ensures { λ r. ⌜ rotationMeant r ≡ rotationOf (activeOf pauli) c s ⌝ }
+    ensures { λ r. ⌜ rotationKernelOf r ≡ rotationKernel (activeOf pauli) c s ⌝ }
 {
     let action = action(pauli);
     let is_diagonal = pauli.x == 0;
@@ -153,14 +151,17 @@ fn rotation_kernel(pauli: ActivePauli, c: f64, s: f64) -> PrecomputedActivePauli
 impl PrecomputedActivePauliMeasurementKernel {
     // Picks the pivot: the highest X qubit, else the highest Z qubit.
     pub fn from_pauli(pauli: ActivePauli) -> MeasurementKernelAnswer
-        ensures { λ r. ⌜ measurementTold r ≡ answered (measurementRow (activeOf pauli) (defaultPivot (activeOf pauli)) false) (measurementOf (activeOf pauli) (defaultPivot (activeOf pauli))) ⌝ }
+        ensures { λ r. let M = activeOf pauli in
+            let p = defaultPivot M in
+            ⌜ measurementKernelAnswerOf r ≡ answered (measurementRow M p false) (measurementKernel M p) ⌝ }
     {
         PrecomputedActivePauliMeasurementKernel::with_pivot(pauli, default_pivot(pauli))
     }
 
     // Refused by 3, by 6 past 61 qubits, by 7 and by 9 to 12.
     pub fn with_pivot(pauli: ActivePauli, pivot: usize) -> MeasurementKernelAnswer
-        ensures { λ r. ⌜ measurementTold r ≡ answered (measurementRow (activeOf pauli) pivot false) (measurementOf (activeOf pauli) pivot) ⌝ }
+        ensures { λ r. let M = activeOf pauli in
+            ⌜ measurementKernelAnswerOf r ≡ answered (measurementRow M pivot false) (measurementKernel M pivot) ⌝ }
     {
         let row = rows::measurement_row(pauli, pivot, false);
         if row != 0 {
@@ -172,13 +173,13 @@ impl PrecomputedActivePauliMeasurementKernel {
 
 fn measurement_kernel(pauli: ActivePauli, pivot: usize) -> PrecomputedActivePauliMeasurementKernel
     requires { ⌜ (pauli .phase ≤ 3) × (0 < pauli .nqubits) × (pauli .nqubits ≤ 64) ⌝ }
-    ensures { λ r. ⌜ measurementMeant r ≡ measurementOf (activeOf pauli) pivot ⌝ }
+    ensures { λ r. ⌜ measurementKernelOf r ≡ measurementKernel (activeOf pauli) pivot ⌝ }
 {
     let action = action(pauli);
     let is_diagonal = pauli.x == 0;
     let even = action.even_phase;
     let conjugate = complex::conjugate(even);
-    let h = f64::from_bits(0x3FE6A09E667F3BCD);
+    let h = f64::from_bits(complex::H_BITS);
     let out_dim = 1usize << (pauli.nqubits - 1);
     PrecomputedActivePauliMeasurementKernel {
         action,

@@ -2,13 +2,13 @@
 // 2^64 - 1. Only running is offered to it; checking and carrying are not.
 use runner::RunAnswer;
 ghost use mathlib.Core.Path.{_≡_};
-ghost use Rattle.framelaws.specs.Memory.{memoryOf};
+ghost use Rattle.amplitudelaws.specs.Lent.{memory};
 ghost use Rattle.runlaws.specs.Run.{widestRun};
 ghost use Rattle.runlaws.specs.Calls.{running};
 ghost use Rattle.answers.specs.Answer.{isAccepted};
 ghost use Rattle.runlaws.specs.Ledger as history;
-ghost use Rattle.runner.specs.Told.{runTold};
-ghost use Rattle.ledger.specs.Told.{ledgerOf};
+ghost use Rattle.runner.specs.Meaning.{runAnswerOf};
+ghost use Rattle.ledger.specs.Meaning.{ledgerOf};
 
 #[repr(C)]
 pub struct Ledger {
@@ -39,9 +39,9 @@ impl Ledger {
         ensures { λ r. ⌜ ledgerOf r ≡ history.counted finished (ledgerOf self) ⌝ }
     {
         Ledger {
-            offered: raised(self.offered, true),
-            finished: raised(self.finished, finished),
-            refused: raised(self.refused, !finished),
+            offered: one_more(self.offered, true),
+            finished: one_more(self.finished, finished),
+            refused: one_more(self.refused, !finished),
         }
     }
 
@@ -54,9 +54,12 @@ impl Ledger {
         scratch_re: &mut [f64],
         scratch_im: &mut [f64],
     ) -> Served
-        ensures answer { λ r. ⌜ runTold (r .answer) ≡ running widestRun (now (run .entry)) (memoryOf (now (re .entry)) (now (im .entry)) (now («scratch_re» .entry)) (now («scratch_im» .entry))) .answer ⌝ }
-        ensures ledger { λ r. ⌜ ledgerOf (r .ledger) ≡ history.served widestRun (record { run = now (run .entry); memory = memoryOf (now (re .entry)) (now (im .entry)) (now («scratch_re» .entry)) (now («scratch_im» .entry)) }) (ledgerOf self) ⌝ }
-        ensures memory { λ _. ⌜ memoryOf (now (re .exit)) (now (im .exit)) (now («scratch_re» .exit)) (now («scratch_im» .exit)) ≡ running widestRun (now (run .entry)) (memoryOf (now (re .entry)) (now (im .entry)) (now («scratch_re» .entry)) (now («scratch_im» .entry))) .lent ⌝ }
+        ensures { λ r. let m = memory re im «scratch_re» «scratch_im» in
+            let did = running widestRun (now (run .entry)) (m .entry) in
+            ⌜ (runAnswerOf (r .answer) ≡ did .answer) × (m .exit ≡ did .lent) ⌝ }
+        ensures { λ r. let m = memory re im «scratch_re» «scratch_im» in
+            let call : history.Call = record { run = now (run .entry); memory = m .entry } in
+            ⌜ ledgerOf (r .ledger) ≡ history.served widestRun call (ledgerOf self) ⌝ }
     {
         let answer = runner::run_contiguous(run, re, im, scratch_re, scratch_im);
         let finished = is_finished(answer);
@@ -66,7 +69,7 @@ impl Ledger {
 }
 
 // One more where `more`, going round to 0.
-fn raised(count: u64, more: bool) -> u64
+fn one_more(count: u64, more: bool) -> u64
     ensures { λ r. ⌜ r ≡ history.raisedBy more count ⌝ }
 {
     std::num::wrapping_add_u64(count, more as u64)
@@ -74,7 +77,7 @@ fn raised(count: u64, more: bool) -> u64
 
 // Whether the answer is that of a finished run.
 fn is_finished(answer: RunAnswer) -> bool
-    ensures { λ r. ⌜ r ≡ isAccepted (runTold answer) ⌝ }
+    ensures { λ r. ⌜ r ≡ isAccepted (runAnswerOf answer) ⌝ }
 {
     match answer {
         RunAnswer::Finished { width: _, steps: _ } => true,

@@ -1,4 +1,4 @@
--- A number of `count` digits between two texts, as `line` writes it. Assumes nothing.
+-- A number of `count` digits between two texts, as `line` writes it.
 use mathlib.Core.Path.{_≡_}
 use mathlib.Core.List.{List, _++_}
 use Prim.Native.Nat.{ℕ, _+_, _≤_, _<_}

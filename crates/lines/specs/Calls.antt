@@ -1,4 +1,4 @@
--- What writing a line, or a text of several, to the start of a lent buffer answers and leaves there. Assumes nothing.
+-- What writing a line, or a text of several, to the start of a lent buffer answers and leaves there.
 use mathlib.Core.Path.{_≡_}
 use mathlib.Core.List.{List}
 use Prim.Native.Nat.{ℕ}
@@ -6,7 +6,7 @@ use lib.Dec.{ltb}
 use lib.ListN.{length}
 use Rattle.answers.specs.Answer.{Answer, refuse}
 use Rattle.answers.specs.Answer.Answer.{accepted}
-use Rattle.paulitext.specs.Calls.{textTold, bufferAfter}
+use Rattle.paulitext.specs.Calls.{textAnswerOf, bufferAfter}
 use Rattle.paulitext.specs.declared.TextAnswer.{TextAnswer}
 
 -- row 16 where the buffer is shorter than the line
@@ -19,5 +19,5 @@ lineLeft line out = bufferAfter (lineCall line out) line out
 
 -- r is what writing `line` into `out` answers, and `left` what it leaves there
 pub record Lined (line out : List ℕ) (r : TextAnswer) (left : List ℕ) : Type 0 where
-  pub told : textTold r ≡ lineCall line out
+  pub told : textAnswerOf r ≡ lineCall line out
   pub buffer : left ≡ lineLeft line out

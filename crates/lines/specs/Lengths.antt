@@ -1,4 +1,4 @@
--- How long the lines are. Assumes nothing.
+-- How long the lines are.
 use mathlib.Core.Path.{_≡_, refl, ap, _∙_}
 use mathlib.Core.Bool.{Bool, true, false, cond}
 use mathlib.Core.List.{List, [], _∷_, _++_}

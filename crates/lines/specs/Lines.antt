@@ -1,5 +1,4 @@
 -- What `bench` prints, as bytes in ASCII: the last width and each basis with its amplitude, or a refusal, each on a line.
--- Assumes nothing.
 use mathlib.Core.Bool.{cond}
 use mathlib.Core.List.{List, [], _∷_, _++_}
 use Prim.Native.Nat.{ℕ, zero, suc, _/_, _%_}

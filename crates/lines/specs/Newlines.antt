@@ -1,4 +1,4 @@
--- A newline ends each line, and stands nowhere else in it. Assumes nothing.
+-- A newline ends each line, and stands nowhere else in it.
 use mathlib.Core.Path.{_≡_, refl, _∙_}
 use mathlib.Core.Bool.{Bool, true, false, cond}
 use mathlib.Core.List.{List, [], _∷_, _++_}

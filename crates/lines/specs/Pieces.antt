@@ -1,4 +1,4 @@
--- A text put together piece by piece in a buffer, and what writing a whole text answers. Assumes nothing.
+-- A text put together piece by piece in a buffer, and what writing a whole text answers.
 use mathlib.Core.Path.{_≡_, refl, sym, ap, _∙_}
 use mathlib.Core.List.{List, [], _∷_, _++_, append-nil, append-assoc}
 use Prim.Native.Nat.{ℕ, suc, _+_, _-_, _≤_, _<_}
@@ -10,7 +10,7 @@ use lib.Seq.{sets, sets-eq, take-all, take-length, length-take-le, drop-drop}
 use Rattle.answers.specs.Answer.{Answer, refuse}
 use Rattle.answers.specs.Answer.Answer.{accepted, refused}
 use Rattle.answers.specs.Row.{refused-accepted, accepted-same}
-use Rattle.paulitext.specs.Calls.{bufferAfter, textTold}
+use Rattle.paulitext.specs.Calls.{bufferAfter, textAnswerOf}
 use Rattle.paulitext.specs.declared.TextAnswer.{TextAnswer}
 use Rattle.paulitext.specs.declared.TextAnswer.the-variants as text
 use Rattle.lines.specs.Calls.{Lined, lineCall}
@@ -71,7 +71,7 @@ module _ (line out : List ℕ) where
       let put : left ≡ line ++ drop (length line) out = l .buffer ∙ ap (λ (a : Answer ℕ). bufferAfter a line out) call in
       (answer r (l .told ∙ call), put ∙ ap (λ (n : ℕ). line ++ drop n out) (sym (zero-add (length line))) ∙ sym (sets-eq line out 0 (omega (arith, h))))
     where
-      answer : (r : TextAnswer) → textTold r ≡ accepted (length line) → r ≡ text.Length (length line)
+      answer : (r : TextAnswer) → textAnswerOf r ≡ accepted (length line) → r ≡ text.Length (length line)
       answer (text.Length n) e = ap text.Length (accepted-same e)
       answer (text.Refused n) e = absurd (refused-accepted e)
 

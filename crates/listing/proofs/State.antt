@@ -1,4 +1,4 @@
--- A state's text in a buffer: the width's line, and then the lines of its amplitudes. Assumes nothing.
+-- A state's text in a buffer: the width's line, and then the lines of its amplitudes.
 use mathlib.Core.Path.{_≡_, ap, _∙_, subst}
 use mathlib.Core.List.{List, _++_}
 use Prim.Native.Nat.{ℕ, _+_, _^_, _≤_, _<_}

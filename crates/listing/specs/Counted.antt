@@ -1,4 +1,4 @@
--- How many lines a listing has: one for the width and one for each basis, or that of a refusal. Assumes nothing.
+-- How many lines a listing has: one for the width and one for each basis, or that of a refusal.
 use mathlib.Core.Path.{_≡_, refl, _∙_}
 use mathlib.Core.List.{List}
 use Prim.Native.Nat.{ℕ, zero, suc, _+_, _^_}

@@ -1,4 +1,4 @@
--- Listings of closed runs, byte for byte, by computation. Assumes nothing.
+-- Listings of closed runs, byte for byte, by computation.
 use mathlib.Core.Path.{_≡_, refl}
 use mathlib.Core.List.{List, [], _∷_, _++_}
 use Prim.Native.Nat.{ℕ}
@@ -22,7 +22,7 @@ use Rattle.framelaws.specs.Memory.{stepped, ran}
 use Rattle.framelaws.specs.Rows.{stepRow, rotationStepRow, promotionStepRow, projectionStepRow}
 use Rattle.framelaws.specs.Survey.{mixedAmplitudes, surveyed, surveyFrom, survey}
 use Rattle.runlaws.specs.Bytes.{number, floatAt, pauliAt}
-use Rattle.runlaws.specs.Calls.{onRun, byRow, surveyOf, memoryRow, running}
+use Rattle.runlaws.specs.Calls.{onRun, surveyOf, memoryRow, running}
 use Rattle.runlaws.specs.Field.{bodyLength, isWhole, fieldAt}
 use Rattle.runlaws.specs.Reading.{decoded, unless, judgedBy, judged, readField, readAt}
 use Rattle.runlaws.specs.Run.{mapped, ended, follow, walk, startWidth, begun, runOf}
@@ -43,7 +43,7 @@ flipText =
     ∷ 49 ∷ 32 ∷ 51 ∷ 102 ∷ 102 ∷ 48 ∷ 48 ∷ 48 ∷ 48 ∷ 48 ∷ 48 ∷ 48 ∷ 48 ∷ 48 ∷ 48 ∷ 48 ∷ 48 ∷ 48 ∷ 32 ∷ 48 ∷ 48 ∷ 48 ∷ 48 ∷ 48 ∷ 48 ∷ 48 ∷ 48 ∷ 48 ∷ 48 ∷ 48 ∷ 48 ∷ 48 ∷ 48 ∷ 48 ∷ 48 ∷ 10 ∷ []
 
 flip-listed : listed flip ≡ flipText
-unfolding listed textOf stateText amplitudeLines fresh point widthLine amplitudeLine refusalLine part bitsOf decimal decimalUpTo running onRun byRow memoryRow surveyOf survey surveyFrom surveyed mixedAmplitudes roomFor room roomRow runOf begun startWidth mapped walk follow ended readAt readField judged judgedBy unless decoded fieldAt isWhole bodyLength number floatAt pauliAt fits hermitian coefficient ys widthAfter stepRow rotationStepRow promotionStepRow projectionStepRow rotationKernelRow measurementRow hermitianRow widthRow unitRow promotedWidthRow pivotRow pivotMask inUnit row first answered left le neg ofBits digit overlap parity ones onesIn ran stepped written over leaves.correction corrected quarters toBits isNan
+unfolding listed textOf stateText amplitudeLines fresh point widthLine amplitudeLine refusalLine part bitsOf decimal decimalUpTo running onRun memoryRow surveyOf survey surveyFrom surveyed mixedAmplitudes roomFor room roomRow runOf begun startWidth mapped walk follow ended readAt readField judged judgedBy unless decoded fieldAt isWhole bodyLength number floatAt pauliAt fits hermitian coefficient ys widthAfter stepRow rotationStepRow promotionStepRow projectionStepRow rotationKernelRow measurementRow hermitianRow widthRow unitRow promotedWidthRow pivotRow pivotMask inUnit row first answered left le neg ofBits digit overlap parity ones onesIn ran stepped written over leaves.correction corrected quarters toBits isNan
 flip-listed = refl
 
 -- two qubits, a rotation by XX with c and s both 1/sqrt 2, and a correction Z on qubit 0
@@ -72,7 +72,7 @@ bellText =
     ∷ 51 ∷ 32 ∷ 56 ∷ 48 ∷ 48 ∷ 48 ∷ 48 ∷ 48 ∷ 48 ∷ 48 ∷ 48 ∷ 48 ∷ 48 ∷ 48 ∷ 48 ∷ 48 ∷ 48 ∷ 48 ∷ 32 ∷ 51 ∷ 102 ∷ 101 ∷ 54 ∷ 97 ∷ 48 ∷ 57 ∷ 101 ∷ 54 ∷ 54 ∷ 55 ∷ 102 ∷ 51 ∷ 98 ∷ 99 ∷ 100 ∷ 10 ∷ []
 
 bell-listed : listed bell ≡ bellText
-unfolding listed textOf stateText amplitudeLines fresh point widthLine amplitudeLine refusalLine part bitsOf decimal decimalUpTo running onRun byRow memoryRow surveyOf survey surveyFrom surveyed mixedAmplitudes roomFor room roomRow runOf begun startWidth mapped walk follow ended readAt readField judged judgedBy unless decoded fieldAt isWhole bodyLength number floatAt pauliAt fits hermitian coefficient ys widthAfter stepRow rotationStepRow promotionStepRow projectionStepRow rotationKernelRow measurementRow hermitianRow widthRow unitRow promotedWidthRow pivotRow pivotMask inUnit row first answered left le neg ofBits digit overlap parity ones onesIn ran stepped written over leaves.rotation leaves.correction corrected rotated rotatedBy rotatedAlone rotatedWith rotationCoefficient power times quarters direction negated scaled add sub mul toBits isNan
+unfolding listed textOf stateText amplitudeLines fresh point widthLine amplitudeLine refusalLine part bitsOf decimal decimalUpTo running onRun memoryRow surveyOf survey surveyFrom surveyed mixedAmplitudes roomFor room roomRow runOf begun startWidth mapped walk follow ended readAt readField judged judgedBy unless decoded fieldAt isWhole bodyLength number floatAt pauliAt fits hermitian coefficient ys widthAfter stepRow rotationStepRow promotionStepRow projectionStepRow rotationKernelRow measurementRow hermitianRow widthRow unitRow promotedWidthRow pivotRow pivotMask inUnit row first answered left le neg ofBits digit overlap parity ones onesIn ran stepped written over leaves.rotation leaves.correction corrected rotated rotatedBy rotatedAlone rotatedWith rotationCoefficient power times quarters direction negated scaled add sub mul toBits isNan
 bell-listed = refl
 
 -- no bytes: refused 14

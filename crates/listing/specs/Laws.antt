@@ -1,4 +1,4 @@
--- Laws of the listing. Assumes nothing.
+-- Laws of the listing.
 use mathlib.Core.Path.{_≡_, refl, ap, _∙_}
 use mathlib.Core.Bool.{Bool, true, false}
 use mathlib.Core.List.{List}

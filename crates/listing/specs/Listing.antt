@@ -1,4 +1,4 @@
--- The whole listing of a run, as bytes in ASCII. Assumes nothing.
+-- The whole listing of a run, as bytes in ASCII.
 use mathlib.Core.List.{List, [], _++_}
 use Prim.Native.Nat.{ℕ, zero, suc, _-_, _^_}
 use lib.Ieee.{Float}

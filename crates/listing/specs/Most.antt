@@ -1,4 +1,4 @@
--- How long a listing can be: no buffer of `mostText` bytes is too short. Assumes nothing.
+-- How long a listing can be: no buffer of `mostText` bytes is too short.
 use mathlib.Core.Path.{_≡_, refl}
 use mathlib.Core.List.{List}
 use Prim.Native.Nat.{ℕ, _^_, _≤_}

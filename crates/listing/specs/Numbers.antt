@@ -1,4 +1,4 @@
--- A run that is refused is refused by a number of the table, 15 at most. Assumes nothing.
+-- A run that is refused is refused by a number of the table, 15 at most.
 use mathlib.Core.Bool.{Bool, true, false}
 use mathlib.Core.List.{List}
 use mathlib.Core.Option.{Option, none, some}
@@ -111,7 +111,7 @@ module _ (limit : ℕ) (s : List ℕ) where
   run-most = by-test AnswerMost (ltb mostBytes (length s)) (λ e. lit≤ tt) (λ e. begun-most (startWidth limit (fieldAt s 0)))
 
   pub running-most : (m : Memory) → AnswerMost (running limit s m .answer)
-  unfolding running onRun byRow memoryRow roomRow AnswerMost
+  unfolding running onRun memoryRow roomRow AnswerMost
   running-most m = by (runOf limit s) run-most
     where
       by : (a : Answer Run) → AnswerMost a → AnswerMost (onRun a m (λ R. byRow (memoryRow (surveyOf R) m) (endingOf (surveyOf R)) (ran (R .width) (R .steps) m) m) .answer)

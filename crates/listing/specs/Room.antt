@@ -1,5 +1,5 @@
 -- The start has room for every run, so that none is refused by 13: a listing is that of the state which the steps leave, or the
--- run's own refusal. Assumes nothing.
+-- run's own refusal.
 use mathlib.Core.Path.{_≡_, ap, ap₂, _∙_}
 use mathlib.Core.Bool.{Bool, true, false, cond, _&&_}
 use mathlib.Core.List.{List, [], _∷_}

@@ -1,4 +1,4 @@
--- The start, amplitude by amplitude: (1, 0) at basis 0, (+0, +0) at every other. Assumes nothing.
+-- The start, amplitude by amplitude: (1, 0) at basis 0, (+0, +0) at every other.
 use mathlib.Core.Path.{_≡_, refl, ap₂, _∙_}
 use Prim.Native.Nat.{ℕ, suc, _^_, _<_}
 use native.Mathlib.Omega.{arith}

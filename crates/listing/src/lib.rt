@@ -6,22 +6,27 @@ ghost use mathlib.Core.Path.{_≡_};
 ghost use Prim.Native.Nat.{_+_, _^_, _≤_};
 ghost use lib.ListN.{length};
 ghost use lib.Seq.{sets};
-ghost use Rattle.amplitudelaws.specs.State.{State, stateOf};
+ghost use Rattle.amplitudelaws.specs.State.{State};
+ghost use Rattle.amplitudelaws.specs.Lent.{state, lentState, Room};
 ghost use Rattle.runlaws.specs.Run.{widestRun};
 ghost use Rattle.lines.specs.Calls.{Lined};
 ghost use Rattle.lines.specs.Lines.{amplitudeLine};
 ghost use Rattle.listing.specs.Listing.{amplitudeLines, stateText, listed};
+
+// Room for the widest state, and in the scratch for what a projection leaves of it.
+const STATE: usize = 4096;
+
+const SCRATCH: usize = 2048;
 
 // Runs a run from amplitude (1, 0) at basis 0 and writes its listing to the start of `out`: the answer is the
 // text's length, or 16 where `out` is too short for it, which is then left as it was.
 pub fn list_run(run: &[u8], out: &mut [u8]) -> TextAnswer
     ensures { λ r. ⌜ Lined (listed (now (run .entry))) (now (out .entry)) r (now (out .exit)) ⌝ }
 {
-    // Room for 12 qubits, and in the scratch for the 11 that a projection leaves of them.
-    let mut re = [0.0; 4096];
-    let mut im = [0.0; 4096];
-    let mut scratch_re = [0.0; 2048];
-    let mut scratch_im = [0.0; 2048];
+    let mut re = [0.0; STATE];
+    let mut im = [0.0; STATE];
+    let mut scratch_re = [0.0; SCRATCH];
+    let mut scratch_im = [0.0; SCRATCH];
     re[0] = 1.0;
     let answer = runner::run_contiguous(run, &mut re, &mut im, &mut scratch_re, &mut scratch_im);
     match answer {
@@ -33,8 +38,8 @@ pub fn list_run(run: &[u8], out: &mut [u8]) -> TextAnswer
 
 // A state. The text's length is known before anything is written.
 fn list_state(re: &[f64], im: &[f64], width: usize, out: &mut [u8]) -> TextAnswer
-    requires { ⌜ (width ≤ widestRun) × (2 ^ width ≤ length (now re)) × (2 ^ width ≤ length (now im)) ⌝ }
-    ensures { λ r. ⌜ Lined (stateText width (stateOf (now (re .entry)) (now (im .entry)))) (now (out .entry)) r (now (out .exit)) ⌝ }
+    requires { ⌜ (width ≤ widestRun) × Room width re im ⌝ }
+    ensures { λ r. ⌜ Lined (stateText width (state re im .entry)) (now (out .entry)) r (now (out .exit)) ⌝ }
 {
     let dim = 1usize << width;
     let first = 8 + lines::decimal_length(width as u64);
@@ -64,8 +69,8 @@ fn lines_length(dim: usize) -> usize
 // Puts the lines of the bases below `dim` at `at`.
 fn put_lines(re: &[f64], im: &[f64], dim: usize, at: usize, out: &mut [u8])
     requires { ⌜ (dim ≤ length (now re)) × (dim ≤ length (now im)) ⌝ }
-    requires { ⌜ at + length (amplitudeLines (stateOf (now re) (now im)) dim) ≤ length (now out) ⌝ }
-    ensures { λ _. ⌜ now (out .exit) ≡ sets (now (out .entry)) at (amplitudeLines (stateOf (now (re .entry)) (now (im .entry))) dim) ⌝ }
+    requires { ⌜ at + length (amplitudeLines (lentState re im) dim) ≤ length (now out) ⌝ }
+    ensures { λ _. ⌜ now (out .exit) ≡ sets (now (out .entry)) at (amplitudeLines (state re im .entry) dim) ⌝ }
 {
     let mut end = at;
     let mut b = 0;

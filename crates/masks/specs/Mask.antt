@@ -1,4 +1,4 @@
--- The mask that four 64-bit words make. Assumes nothing.
+-- The mask that four 64-bit words make.
 use mathlib.Core.Bool.{Bool, cond}
 use mathlib.Core.List.{List}
 use Prim.Native.Nat.{ℕ}
@@ -12,5 +12,5 @@ unfoldable pub mask : List ℕ → ℕ
 mask w = words 64 (λ i. getD w i 0) 4
 
 -- bit q written; past the last of the 256 bits nothing is
-unfoldable pub written : ℕ → Bool → ℕ → ℕ
-written q v m = cond (ltb q 256) (put q (bitOf v) m) m
+unfoldable pub bitWritten : ℕ → Bool → ℕ → ℕ
+bitWritten q v m = cond (ltb q 256) (put q (bitOf v) m) m

@@ -1,4 +1,4 @@
--- Four words of 64 bits as a mask: what the code does to the words, it does to the mask. Assumes nothing.
+-- Four words of 64 bits as a mask: what the code does to the words, it does to the mask.
 use mathlib.Core.Path.{_≡_, refl, sym, ap, _∙_, subst}
 use mathlib.Core.Bool.{Bool, true, false, _&&_}
 use mathlib.Core.List.{List, [], _∷_}
@@ -17,7 +17,7 @@ use borrow.Author.Tests.{lt-ltb, le-ltb}
 use Rattle.bitlaws.specs.Digit.{bitOf, digit, put, digit-above}
 use Rattle.bitlaws.specs.Highest.{highest, highest-none, highest-some, power-top}
 use Rattle.bitlaws.specs.Words.{words, total, words-xor, words-or, words-ones, words-at, words-digit, words-put, words-same, words-lt, words-below}
-use Rattle.masks.specs.Mask.{mask, written}
+use Rattle.masks.specs.Mask.{mask, bitWritten}
 
 -- every word of a list is below 2 ^ 64
 abbrev pub Small : List ℕ → Type 0
@@ -135,13 +135,13 @@ module _ (a : List ℕ) (small : Small a) where
       grouped false q r s = refl
 
 -- past the end nothing is written
-pub written-past : (q : ℕ) (v : Bool) (m : ℕ) → 256 ≤ q → written q v m ≡ m
-unfolding written
-written-past q v m h = rw (le-ltb q 256 h)
+pub bit-written-past : (q : ℕ) (v : Bool) (m : ℕ) → 256 ≤ q → bitWritten q v m ≡ m
+unfolding bitWritten
+bit-written-past q v m h = rw (le-ltb q 256 h)
 
-pub written-inside : (q : ℕ) (v : Bool) (m : ℕ) → q < 256 → written q v m ≡ put q (bitOf v) m
-unfolding written
-written-inside q v m h = rw (lt-ltb q 256 h)
+pub bit-written-inside : (q : ℕ) (v : Bool) (m : ℕ) → q < 256 → bitWritten q v m ≡ put q (bitOf v) m
+unfolding bitWritten
+bit-written-inside q v m h = rw (lt-ltb q 256 h)
 
 -- a digit, tested and turned back
 pub bit-of : (d : ℕ) → d < 2 → bitOf (eqb d 1) ≡ d

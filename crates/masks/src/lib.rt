@@ -5,7 +5,7 @@ ghost use lib.Bits.{bitAnd, bitXor};
 ghost use lib.Count.{ones};
 ghost use lib.Dec.{eqb, ltb};
 ghost use Rattle.bitlaws.specs.Digit.{bitOf, digit, put};
-ghost use Rattle.masks.specs.Mask.{mask, written};
+ghost use Rattle.masks.specs.Mask.{mask, bitWritten};
 
 // Whether a bit is set: none is from bit 256 on.
 pub fn packed_bit(words: [u64; 4], bit_index: usize) -> bool
@@ -21,7 +21,7 @@ pub fn packed_bit(words: [u64; 4], bit_index: usize) -> bool
 
 // The mask with a bit written. There is no room for one from bit 256 on: the mask comes back as it is.
 pub fn set_packed_bit(words: [u64; 4], bit_index: usize, value: bool) -> [u64; 4]
-    ensures { λ r. ⌜ mask r ≡ written «bit_index» value (mask words) ⌝ }
+    ensures { λ r. ⌜ mask r ≡ bitWritten «bit_index» value (mask words) ⌝ }
 {
     if 256 <= bit_index {
         return words;

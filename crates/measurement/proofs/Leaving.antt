@@ -15,15 +15,15 @@ use Rattle.statelaws.specs.Pairs.{Pivoted}
 use Rattle.amplitudelaws.specs.Arithmetic.{mixed, scale, direction, direction-bit}
 use Rattle.amplitudelaws.specs.Binary.{binary, Point}
 use Rattle.amplitudelaws.specs.Projection.{remainingBy}
-use Rattle.amplitudelaws.specs.State.{State}
+use Rattle.amplitudelaws.specs.State.{State, HasRoom}
 use Rattle.kernels.specs.Kernel.{MeasurementKernel}
-use Rattle.measurement.specs.Measured.{kernelRemaining, Measurable, Holding}
+use Rattle.measurement.specs.Measured.{kernelRemaining, Projectable}
 
 -- the half that is left has room too
-pub holding-half : {n : ℕ} {S : State} → Holding n S → Holding (n - 1) S
-holding-half {n} h =
+pub room-half : (n : ℕ) (S : State) → HasRoom n S → HasRoom (n - 1) S
+room-half n S h =
     let less : 2 ^ (n - 1) ≤ 2 ^ n = pow-mono {i = n - 1} {j = n} (omega arith) in
-    record { re = omega (arith, h .re); im = omega (arith, h .im) }
+    (omega (arith, h .0), omega (arith, h .1))
 
 -- two bools as digits: whether they differ, and the parity of their sum
 differ : (t u : Bool) → bitOf (unlike t u) % 2 ≡ (bitOf t + bitOf u) % 2
@@ -32,7 +32,7 @@ differ true false = refl
 differ false true = refl
 differ false false = refl
 
-module _ {K : MeasurementKernel} (m : Measurable K) where
+module _ {K : MeasurementKernel} (m : Projectable K) where
   pub pivot-low : K .pivot ≤ 60
   pivot-low = omega (arith, m .narrow, m .pivoted .inside)
 
@@ -62,5 +62,5 @@ module _ (K : MeasurementKernel) (v : Bool) (F : ℕ → Point) (j : ℕ) where
     mixing-left = rw (d, odd, direction-bit binary (bitOf v + overlap b (K .action .z)), opened)
 
 -- the mask of a kernel that mixes
-pub mixing-pivoted : {K : MeasurementKernel} → Measurable K → K .diagonal ≡ false → Pivoted (K .action .n) (K .pivot) (K .action .x)
+pub mixing-pivoted : {K : MeasurementKernel} → Projectable K → K .diagonal ≡ false → Pivoted (K .action .n) (K .pivot) (K .action .x)
 mixing-pivoted {K} m d = subst (λ (t : Bool). Pivoted (K .action .n) (K .pivot) (cond t (K .action .z) (K .action .x))) d (m .pivoted)

@@ -3,14 +3,14 @@ use bits::Opened;
 use complex::Complex64;
 ghost use mathlib.Core.Path.{_≡_};
 ghost use Prim.Native.Nat.{_%_, _<_, _^_};
-ghost use lib.ListN.{length};
 ghost use Rattle.bitlaws.specs.Opening.{openBit};
-ghost use Rattle.amplitudelaws.specs.State.{stateOf, point, setPoint};
+ghost use Rattle.amplitudelaws.specs.Lent.{state, In};
+ghost use Rattle.amplitudelaws.specs.State.{point, setPoint};
 ghost use Rattle.complex.specs.Complex.{complexOf};
 
 pub(crate) fn read(re: &[f64], im: &[f64], b: usize) -> Complex64
-    requires { ⌜ (b < length (now re)) × (b < length (now im)) ⌝ }
-    ensures { λ r. ⌜ complexOf r ≡ point (stateOf (now (re .entry)) (now (im .entry))) b ⌝ }
+    requires { ⌜ In b re im ⌝ }
+    ensures { λ r. ⌜ complexOf r ≡ point (state re im .entry) b ⌝ }
 {
     Complex64 {
         re: re[b],
@@ -19,8 +19,8 @@ pub(crate) fn read(re: &[f64], im: &[f64], b: usize) -> Complex64
 }
 
 pub(crate) fn write(re: &mut [f64], im: &mut [f64], b: usize, a: Complex64)
-    requires { ⌜ (b < length (now re)) × (b < length (now im)) ⌝ }
-    ensures { λ _. ⌜ stateOf (now (re .exit)) (now (im .exit)) ≡ setPoint b (complexOf a) (stateOf (now (re .entry)) (now (im .entry))) ⌝ }
+    requires { ⌜ In b re im ⌝ }
+    ensures { λ _. ⌜ state re im .exit ≡ setPoint b (complexOf a) (state re im .entry) ⌝ }
 {
     re[b] = a.re;
     im[b] = a.im;

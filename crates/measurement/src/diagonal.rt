@@ -5,14 +5,15 @@ use kernels::PrecomputedActivePauliMeasurementKernel;
 ghost use mathlib.Core.Path.{_≡_};
 ghost use mathlib.Core.Bool.{true};
 ghost use Prim.Native.Nat.{_-_, _≤_, _<_, _^_};
-ghost use lib.ListN.{length};
 ghost use Rattle.bitlaws.specs.Digit.{bitOf};
 ghost use Rattle.bitlaws.specs.Source as basis;
 ghost use Rattle.amplitudelaws.specs.Arithmetic.{scaled};
 ghost use Rattle.amplitudelaws.specs.Binary.{binary};
-ghost use Rattle.amplitudelaws.specs.State.{stateOf, point, setPoint, written};
-ghost use Rattle.kernels.specs.Kernel.{measurementMeant};
-ghost use Rattle.measurement.specs.Measured.{kernelProjected, Measurable, Holding};
+ghost use Rattle.amplitudelaws.specs.Lent.{state, Room, In};
+ghost use Rattle.amplitudelaws.specs.Rows.{widestKernel};
+ghost use Rattle.amplitudelaws.specs.State.{point, setPoint, written};
+ghost use Rattle.kernels.specs.Kernel.{measurementKernelOf};
+ghost use Rattle.measurement.specs.Measured.{kernelProjected, Projectable};
 
 pub(crate) fn project_diagonal(
     re: &mut [f64],
@@ -21,8 +22,11 @@ pub(crate) fn project_diagonal(
     branch: bool,
     invnorm: f64,
 )
-    requires { ⌜ Measurable (measurementMeant kernel) × (kernel .«is_diagonal» ≡ true) × Holding (kernel .action .nqubits) (stateOf (now re) (now im)) ⌝ }
-    ensures { λ _. ⌜ stateOf (now (re .exit)) (now (im .exit)) ≡ written (kernel .action .nqubits - 1) (kernelProjected (measurementMeant kernel) (bitOf branch) invnorm (stateOf (now (re .entry)) (now (im .entry)))) (stateOf (now (re .entry)) (now (im .entry))) ⌝ }
+    requires { let n = kernel .action .nqubits in
+        ⌜ Projectable (measurementKernelOf kernel) × (kernel .«is_diagonal» ≡ true) × Room n re im ⌝ }
+    ensures { λ _. let S = state re im .entry in
+        let K = measurementKernelOf kernel in
+        ⌜ state re im .exit ≡ written (K .action .n - 1) (kernelProjected K (bitOf branch) invnorm S) S ⌝ }
 {
     let odd = kernel.diagonal_phase_bit ^ branch;
     let mut j = 0;
@@ -35,7 +39,7 @@ pub(crate) fn project_diagonal(
 
 // The basis whose bits without the pivot are `packed` and whose parity with z is `odd`.
 pub(crate) fn source(packed: usize, pivot: usize, zmask: u64, odd: bool) -> usize
-    requires { ⌜ (pivot ≤ 60) × (packed < 2 ^ 60) ⌝ }
+    requires { ⌜ (pivot ≤ widestKernel - 1) × (packed < 2 ^ (widestKernel - 1)) ⌝ }
     ensures { λ r. ⌜ r ≡ basis.source pivot zmask (bitOf odd) packed ⌝ }
 {
     let without_pivot = amplitude::opened_at(packed, pivot);
@@ -46,8 +50,9 @@ pub(crate) fn source(packed: usize, pivot: usize, zmask: u64, odd: bool) -> usiz
 }
 
 fn gather(re: &mut [f64], im: &mut [f64], j: usize, from: usize, invnorm: f64)
-    requires { ⌜ (j < length (now re)) × (j < length (now im)) × (from < length (now re)) × (from < length (now im)) ⌝ }
-    ensures { λ _. ⌜ stateOf (now (re .exit)) (now (im .exit)) ≡ setPoint j (scaled binary (point (stateOf (now (re .entry)) (now (im .entry))) from) invnorm) (stateOf (now (re .entry)) (now (im .entry))) ⌝ }
+    requires { ⌜ In j re im × In from re im ⌝ }
+    ensures { λ _. let S = state re im .entry in
+        ⌜ state re im .exit ≡ setPoint j (scaled binary (point S from) invnorm) S ⌝ }
 {
     re[j] = re[from] * invnorm;
     im[j] = im[from] * invnorm;

@@ -9,18 +9,19 @@ mod norm;
 use activepauli::ActivePauli;
 use kernels::MeasurementKernelAnswer;
 use kernels::PrecomputedActivePauliMeasurementKernel;
-use kernels::StepAnswer;
+use rows::StepAnswer;
 ghost use mathlib.Core.Path.{_≡_};
 ghost use mathlib.Core.Bool.{false};
 ghost use Prim.Native.Nat.{_-_};
-ghost use Rattle.answers.specs.Row as table;
+ghost use Rattle.answers.specs.Outcome.{byRow, finished};
 ghost use Rattle.bitlaws.specs.Digit.{bitOf};
 ghost use Rattle.activepauli.specs.Active.{activeOf};
-ghost use Rattle.amplitudelaws.specs.Rows.{projectionRow, probabilityRow};
-ghost use Rattle.amplitudelaws.specs.State.{stateOf, written};
-ghost use Rattle.amplitudelaws.specs.Steps.{projection, scratchAfter, probability};
-ghost use Rattle.kernels.specs.Kernel.{measurementMeant, stepTold, finished};
-ghost use Rattle.measurement.specs.Measured.{probabilityTold, kernelProjected, kernelScratch, Measurable, Holding};
+ghost use Rattle.amplitudelaws.specs.Calls.{weighing, projecting};
+ghost use Rattle.amplitudelaws.specs.Lent.{state, memory, Room};
+ghost use Rattle.rows.specs.Step.{stepAnswerOf};
+ghost use Rattle.kernels.specs.Kernel.{measurementKernelOf};
+ghost use Rattle.measurement.specs.Measured.{probabilityAnswerOf, kernelMemory, Projectable};
+ghost use Rattle.measurement.specs.Rows.{withEight, kernelRow};
 
 pub enum ProbabilityAnswer {
     Probability(f64),
@@ -36,7 +37,7 @@ pub fn probability_contiguous(
     pivot: usize,
     branch: bool,
 ) -> ProbabilityAnswer
-    ensures { λ r. ⌜ probabilityTold r ≡ table.answered (probabilityRow (activeOf pauli) pivot (stateOf (now (re .entry)) (now (im .entry)))) (probability (activeOf pauli) pivot (bitOf branch) (stateOf (now (re .entry)) (now (im .entry)))) ⌝ }
+    ensures { λ r. ⌜ probabilityAnswerOf r ≡ weighing (activeOf pauli) pivot (bitOf branch) (state re im .entry) ⌝ }
 {
     match PrecomputedActivePauliMeasurementKernel::with_pivot(pauli, pivot) {
         MeasurementKernelAnswer::Refused(row) => ProbabilityAnswer::Refused(row),
@@ -62,49 +63,78 @@ pub fn project_contiguous(
     branch: bool,
     invnorm: f64,
 ) -> StepAnswer
-    ensures answer { λ r. ⌜ stepTold r ≡ table.answered (projectionRow (activeOf pauli) pivot invnorm (stateOf (now (re .entry)) (now (im .entry))) (stateOf (now («scratch_re» .entry)) (now («scratch_im» .entry)))) finished ⌝ }
-    ensures state { λ _. ⌜ stateOf (now (re .exit)) (now (im .exit)) ≡ table.left (projectionRow (activeOf pauli) pivot invnorm (stateOf (now (re .entry)) (now (im .entry))) (stateOf (now («scratch_re» .entry)) (now («scratch_im» .entry)))) (projection (activeOf pauli) pivot (bitOf branch) invnorm (stateOf (now (re .entry)) (now (im .entry)))) (stateOf (now (re .entry)) (now (im .entry))) ⌝ }
-    ensures scratch { λ _. ⌜ stateOf (now («scratch_re» .exit)) (now («scratch_im» .exit)) ≡ table.left (projectionRow (activeOf pauli) pivot invnorm (stateOf (now (re .entry)) (now (im .entry))) (stateOf (now («scratch_re» .entry)) (now («scratch_im» .entry)))) (scratchAfter (activeOf pauli) pivot (bitOf branch) invnorm (stateOf (now (re .entry)) (now (im .entry))) (stateOf (now («scratch_re» .entry)) (now («scratch_im» .entry)))) (stateOf (now («scratch_re» .entry)) (now («scratch_im» .entry))) ⌝ }
+    ensures { λ r. let m = memory re im «scratch_re» «scratch_im» in
+        let did = projecting (activeOf pauli) pivot (bitOf branch) invnorm (m .entry) in
+        ⌜ (stepAnswerOf r ≡ did .answer) × (m .exit ≡ did .lent) ⌝ }
 {
-    let row = projection_row(re, im, scratch_re, scratch_im, pauli, pivot, invnorm);
-    if row != 0 {
-        return StepAnswer::Refused(row);
-    }
     match PrecomputedActivePauliMeasurementKernel::with_pivot(pauli, pivot) {
-        // Never: the rows of a kernel are among those above.
-        MeasurementKernelAnswer::Refused(row) => StepAnswer::Refused(row),
-        MeasurementKernelAnswer::Kernel(kernel) => {
-            project(re, im, scratch_re, scratch_im, kernel, branch, invnorm);
-            StepAnswer::Done
-        }
+        MeasurementKernelAnswer::Refused(row) => StepAnswer::Refused(with_eight(row, invnorm)),
+        MeasurementKernelAnswer::Kernel(kernel) => project_in_room(
+            re,
+            im,
+            scratch_re,
+            scratch_im,
+            kernel,
+            branch,
+            invnorm,
+        ),
     }
 }
 
-// All rows of a projection. 8, of invnorm, stands between those of a kernel.
-pub fn projection_row(
+// Row 8, of invnorm, stands between the rows of a kernel, up to 7 and from 9.
+fn with_eight(row: u8, invnorm: f64) -> u8
+    ensures { λ r. ⌜ r ≡ withEight row invnorm ⌝ }
+{
+    if (8 < row) & !rows::is_finite(invnorm) {
+        8
+    } else {
+        row
+    }
+}
+
+// Rows 8 and 13, then the projection.
+fn project_in_room(
+    re: &mut [f64],
+    im: &mut [f64],
+    scratch_re: &mut [f64],
+    scratch_im: &mut [f64],
+    kernel: PrecomputedActivePauliMeasurementKernel,
+    branch: bool,
+    invnorm: f64,
+) -> StepAnswer
+    requires { ⌜ Projectable (measurementKernelOf kernel) ⌝ }
+    ensures { λ r. let m = memory re im «scratch_re» «scratch_im» in
+        let K = measurementKernelOf kernel in
+        let did = byRow (kernelRow K invnorm (m .entry)) finished (kernelMemory K (bitOf branch) invnorm (m .entry)) (m .entry) in
+        ⌜ (stepAnswerOf r ≡ did .answer) × (m .exit ≡ did .lent) ⌝ }
+{
+    let row = refusal(re, im, scratch_re, scratch_im, kernel, invnorm);
+    if row != 0 {
+        return StepAnswer::Refused(row);
+    }
+    project(re, im, scratch_re, scratch_im, kernel, branch, invnorm);
+    StepAnswer::Done
+}
+
+// Of rows 8 and 13 the one that refuses, 0 where neither does.
+fn refusal(
     re: &[f64],
     im: &[f64],
     scratch_re: &[f64],
     scratch_im: &[f64],
-    pauli: ActivePauli,
-    pivot: usize,
+    kernel: PrecomputedActivePauliMeasurementKernel,
     invnorm: f64,
 ) -> u8
-    ensures { λ r. ⌜ r ≡ projectionRow (activeOf pauli) pivot invnorm (stateOf (now (re .entry)) (now (im .entry))) (stateOf (now («scratch_re» .entry)) (now («scratch_im» .entry))) ⌝ }
+    requires { ⌜ Projectable (measurementKernelOf kernel) ⌝ }
+    ensures { λ r. ⌜ r ≡ kernelRow (measurementKernelOf kernel) invnorm (memory re im «scratch_re» «scratch_im» .entry) ⌝ }
 {
-    let left = below(pauli.nqubits);
-    let enough = rows::has_room(re, im, pauli.nqubits)
-        & ((pauli.x == 0) | rows::has_room(scratch_re, scratch_im, left));
+    let n = kernel.action.nqubits;
+    let enough = rows::has_room(re, im, n)
+        & (kernel.is_diagonal | rows::has_room(scratch_re, scratch_im, n - 1));
     rows::first(
-        rows::measurement_row(pauli, pivot, !rows::is_finite(invnorm)),
+        rows::row(!rows::is_finite(invnorm), 8),
         rows::room_row(enough),
     )
-}
-
-fn below(nqubits: usize) -> usize
-    ensures { λ r. ⌜ r ≡ nqubits - 1 ⌝ }
-{
-    if nqubits == 0 { 0 } else { nqubits - 1 }
 }
 
 fn project(
@@ -116,9 +146,10 @@ fn project(
     branch: bool,
     invnorm: f64,
 )
-    requires { ⌜ Measurable (measurementMeant kernel) × Holding (kernel .action .nqubits) (stateOf (now re) (now im)) × (kernel .«is_diagonal» ≡ false → Holding (kernel .action .nqubits - 1) (stateOf (now «scratch_re») (now «scratch_im»))) ⌝ }
-    ensures state { λ _. ⌜ stateOf (now (re .exit)) (now (im .exit)) ≡ written (kernel .action .nqubits - 1) (kernelProjected (measurementMeant kernel) (bitOf branch) invnorm (stateOf (now (re .entry)) (now (im .entry)))) (stateOf (now (re .entry)) (now (im .entry))) ⌝ }
-    ensures scratch { λ _. ⌜ stateOf (now («scratch_re» .exit)) (now («scratch_im» .exit)) ≡ kernelScratch (measurementMeant kernel) (bitOf branch) invnorm (stateOf (now (re .entry)) (now (im .entry))) (stateOf (now («scratch_re» .entry)) (now («scratch_im» .entry))) ⌝ }
+    requires { ⌜ Projectable (measurementKernelOf kernel) × Room (kernel .action .nqubits) re im
+        × (kernel .«is_diagonal» ≡ false → Room (kernel .action .nqubits - 1) «scratch_re» «scratch_im») ⌝ }
+    ensures { λ _. let m = memory re im «scratch_re» «scratch_im» in
+        ⌜ m .exit ≡ kernelMemory (measurementKernelOf kernel) (bitOf branch) invnorm (m .entry) ⌝ }
 {
     if kernel.is_diagonal {
         diagonal::project_diagonal(re, im, kernel, branch, invnorm);

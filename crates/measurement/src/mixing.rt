@@ -7,10 +7,12 @@ ghost use mathlib.Core.Path.{_≡_};
 ghost use mathlib.Core.Bool.{false};
 ghost use Prim.Native.Nat.{_-_, _≤_, _<_, _^_};
 ghost use Rattle.bitlaws.specs.Digit.{bitOf};
-ghost use Rattle.amplitudelaws.specs.State.{stateOf, point, written};
+ghost use Rattle.amplitudelaws.specs.Lent.{state, Room};
+ghost use Rattle.amplitudelaws.specs.Rows.{widestKernel};
+ghost use Rattle.amplitudelaws.specs.State.{point, written};
 ghost use Rattle.complex.specs.Complex.{complexOf};
-ghost use Rattle.kernels.specs.Kernel.{measurementMeant};
-ghost use Rattle.measurement.specs.Measured.{kernelRemaining, kernelProjected, Measurable, Holding};
+ghost use Rattle.kernels.specs.Kernel.{measurementKernelOf};
+ghost use Rattle.measurement.specs.Measured.{kernelRemaining, kernelProjected, Projectable};
 
 // What the branch leaves at output j, before invnorm.
 pub(crate) fn mixture(
@@ -20,8 +22,9 @@ pub(crate) fn mixture(
     branch: bool,
     j: usize,
 ) -> Complex64
-    requires { ⌜ Measurable (measurementMeant kernel) × (kernel .«is_diagonal» ≡ false) × (j < 2 ^ (kernel .action .nqubits - 1)) × Holding (kernel .action .nqubits) (stateOf (now re) (now im)) ⌝ }
-    ensures { λ r. ⌜ complexOf r ≡ kernelRemaining (measurementMeant kernel) (bitOf branch) (point (stateOf (now (re .entry)) (now (im .entry)))) j ⌝ }
+    requires { ⌜ Projectable (measurementKernelOf kernel) × (kernel .«is_diagonal» ≡ false)
+        × (j < 2 ^ (kernel .action .nqubits - 1)) × Room (kernel .action .nqubits) re im ⌝ }
+    ensures { λ r. ⌜ complexOf r ≡ kernelRemaining (measurementKernelOf kernel) (bitOf branch) (point (state re im .entry)) j ⌝ }
 {
     let source0 = amplitude::opened_at(j, kernel.pivot);
     let source1 = source0 ^ kernel.action.xmask as usize;
@@ -31,7 +34,7 @@ pub(crate) fn mixture(
         kernel.nondiagonal_coefficient1_even,
     );
     complex::mixed(
-        f64::from_bits(0x3FE6A09E667F3BCD),
+        f64::from_bits(complex::H_BITS),
         w,
         amplitude::read(re, im, source0),
         amplitude::read(re, im, source1),
@@ -47,8 +50,11 @@ pub(crate) fn project_to_scratch(
     branch: bool,
     invnorm: f64,
 )
-    requires { ⌜ Measurable (measurementMeant kernel) × (kernel .«is_diagonal» ≡ false) × Holding (kernel .action .nqubits) (stateOf (now re) (now im)) × Holding (kernel .action .nqubits - 1) (stateOf (now «scratch_re») (now «scratch_im»)) ⌝ }
-    ensures { λ _. ⌜ stateOf (now («scratch_re» .exit)) (now («scratch_im» .exit)) ≡ written (kernel .action .nqubits - 1) (kernelProjected (measurementMeant kernel) (bitOf branch) invnorm (stateOf (now (re .entry)) (now (im .entry)))) (stateOf (now («scratch_re» .entry)) (now («scratch_im» .entry))) ⌝ }
+    requires { ⌜ Projectable (measurementKernelOf kernel) × (kernel .«is_diagonal» ≡ false)
+        × Room (kernel .action .nqubits) re im × Room (kernel .action .nqubits - 1) «scratch_re» «scratch_im» ⌝ }
+    ensures { λ _. let T = state «scratch_re» «scratch_im» in
+        let K = measurementKernelOf kernel in
+        ⌜ T .exit ≡ written (K .action .n - 1) (kernelProjected K (bitOf branch) invnorm (state re im .entry)) (T .entry) ⌝ }
 {
     let mut j = 0;
     while j < kernel.out_dim {
@@ -66,8 +72,9 @@ pub(crate) fn copy_back(
     scratch_im: &[f64],
     nqubits: usize,
 )
-    requires { ⌜ (nqubits ≤ 60) × Holding nqubits (stateOf (now re) (now im)) × Holding nqubits (stateOf (now «scratch_re») (now «scratch_im»)) ⌝ }
-    ensures { λ _. ⌜ stateOf (now (re .exit)) (now (im .exit)) ≡ written nqubits (point (stateOf (now («scratch_re» .entry)) (now («scratch_im» .entry)))) (stateOf (now (re .entry)) (now (im .entry))) ⌝ }
+    requires { ⌜ (nqubits ≤ widestKernel - 1) × Room nqubits re im × Room nqubits «scratch_re» «scratch_im» ⌝ }
+    ensures { λ _. let scratch = state «scratch_re» «scratch_im» .entry in
+        ⌜ state re im .exit ≡ written nqubits (point scratch) (state re im .entry) ⌝ }
 {
     let dim = 1usize << nqubits;
     let mut j = 0;

@@ -5,10 +5,11 @@ use kernels::PrecomputedActivePauliMeasurementKernel;
 ghost use mathlib.Core.Path.{_≡_};
 ghost use Prim.Native.Nat.{_-_, _<_, _^_};
 ghost use Rattle.bitlaws.specs.Digit.{bitOf};
-ghost use Rattle.amplitudelaws.specs.State.{stateOf, point};
+ghost use Rattle.amplitudelaws.specs.Lent.{state, Room};
+ghost use Rattle.amplitudelaws.specs.State.{point};
 ghost use Rattle.complex.specs.Complex.{complexOf};
-ghost use Rattle.kernels.specs.Kernel.{measurementMeant};
-ghost use Rattle.measurement.specs.Measured.{kernelRemaining, kernelMass, Measurable, Holding};
+ghost use Rattle.kernels.specs.Kernel.{measurementKernelOf};
+ghost use Rattle.measurement.specs.Measured.{kernelRemaining, kernelMass, Projectable};
 
 // From 0, output index rising.
 pub(crate) fn mass(
@@ -17,8 +18,9 @@ pub(crate) fn mass(
     kernel: PrecomputedActivePauliMeasurementKernel,
     branch: bool,
 ) -> f64
-    requires { ⌜ Measurable (measurementMeant kernel) × Holding (kernel .action .nqubits) (stateOf (now re) (now im)) ⌝ }
-    ensures { λ r. ⌜ r ≡ kernelMass (measurementMeant kernel) (bitOf branch) (2 ^ (kernel .action .nqubits - 1)) (stateOf (now (re .entry)) (now (im .entry))) ⌝ }
+    requires { ⌜ Projectable (measurementKernelOf kernel) × Room (kernel .action .nqubits) re im ⌝ }
+    ensures { λ r. let K = measurementKernelOf kernel in
+        ⌜ r ≡ kernelMass K (bitOf branch) (2 ^ (K .action .n - 1)) (state re im .entry) ⌝ }
 {
     let mut sum = 0.0;
     let mut j = 0;
@@ -37,8 +39,9 @@ fn remaining(
     branch: bool,
     j: usize,
 ) -> Complex64
-    requires { ⌜ Measurable (measurementMeant kernel) × (j < 2 ^ (kernel .action .nqubits - 1)) × Holding (kernel .action .nqubits) (stateOf (now re) (now im)) ⌝ }
-    ensures { λ r. ⌜ complexOf r ≡ kernelRemaining (measurementMeant kernel) (bitOf branch) (point (stateOf (now (re .entry)) (now (im .entry)))) j ⌝ }
+    requires { ⌜ Projectable (measurementKernelOf kernel)
+        × (j < 2 ^ (kernel .action .nqubits - 1)) × Room (kernel .action .nqubits) re im ⌝ }
+    ensures { λ r. ⌜ complexOf r ≡ kernelRemaining (measurementKernelOf kernel) (bitOf branch) (point (state re im .entry)) j ⌝ }
 {
     if !kernel.is_diagonal {
         return crate::mixing::mixture(re, im, kernel, branch, j);

@@ -1,4 +1,4 @@
--- What is seen of an answer that is a qubit or none: whether there is one, and which, 0 where there is none. Assumes nothing.
+-- What is seen of an answer that is a qubit or none: whether there is one, and which, 0 where there is none.
 use mathlib.Core.Path.{_≡_, refl, subst}
 use mathlib.Core.Bool.{Bool, true, false}
 use mathlib.Core.Option.{Option, none, some}

@@ -24,8 +24,8 @@ ghost use Rattle.paulilaws.specs.Letter.{letterOf};
 ghost use Rattle.paulilaws.specs.Letter.Letter.{I as Letter·I};
 ghost use Rattle.paulilaws.specs.Pauli as book;
 ghost use Rattle.bits.specs.Opening.{opening};
-ghost use Rattle.masks.specs.Mask.{mask, written};
-ghost use Rattle.paulis.specs.Strings.{pauliOf, letterMeant};
+ghost use Rattle.masks.specs.Mask.{mask, bitWritten};
+ghost use Rattle.paulis.specs.Strings.{pauliOf, pauliLetterOf};
 ghost use Rattle.paulis.specs.Calls.{identityCall, bitCall, getCall, setCall, supportCall};
 ghost use Rattle.pauligroup.specs.Calls.{productCall, anticommutesCall, coefficientCall, squaresCall, signCall};
 ghost use Rattle.paulitext.specs.Text.{shown};
@@ -63,8 +63,8 @@ pub extern "C" fn naribhush_set_packed_bit(
     bit_index: usize,
     value: u8,
 ) -> Verdict
-    ensures { λ r. ⌜ (let m = mask (now (words .entry)) in
-        Seen r (mask (now (words .exit))) m (answered (flagRow value) (written «bit_index» (eqb value 1) m))) ⌝ }
+    ensures { λ r. let m = mask (now (words .entry)) in
+        ⌜ Seen r (mask (now (words .exit))) m (answered (flagRow value) (bitWritten «bit_index» (eqb value 1) m)) ⌝ }
 {
     let row = verdicts::flag_row(value);
     if row != 0 {
@@ -104,7 +104,7 @@ pub extern "C" fn naribhush_get(pauli: PauliString, q: usize) -> SeenLetter
 
 // The letter that has these parts.
 fn letter(x: u8, z: u8) -> Pauli
-    ensures { λ r. ⌜ letterMeant r ≡ letterOf x z ⌝ }
+    ensures { λ r. ⌜ pauliLetterOf r ≡ letterOf x z ⌝ }
 {
     if x == 0 {
         if z == 0 { Pauli::I } else { Pauli::Z }
@@ -116,8 +116,8 @@ fn letter(x: u8, z: u8) -> Pauli
 // The letter by its X and its Z part, each 0 or 1; one over 1 is refused by 14.
 #[no_mangle]
 pub extern "C" fn naribhush_set(pauli: PauliString, q: usize, x: u8, z: u8) -> SeenPauli
-    ensures { λ r. ⌜ (let set = setCall (pauliOf pauli) q (letterOf x z) in
-        Seen (r .verdict) (pauliOf (r .pauli)) (book.identity 0) (behind (behind set (flagRow x)) (flagRow z))) ⌝ }
+    ensures { λ r. let set = setCall (pauliOf pauli) q (letterOf x z) in
+        ⌜ Seen (r .verdict) (pauliOf (r .pauli)) (book.identity 0) (behind (behind set (flagRow x)) (flagRow z)) ⌝ }
 {
     let set = seen::pauli(pauli.set(q, letter(x, z)));
     let by_x = seen::behind(set, verdicts::flag_row(x));
@@ -175,8 +175,9 @@ pub extern "C" fn naribhush_pauli_string(ops: &[u8]) -> SeenPauli
 
 #[no_mangle]
 pub extern "C" fn naribhush_display(pauli: PauliString, out: &mut [u8]) -> SeenNumber
-    ensures length { λ r. ⌜ Seen (r .verdict) (r .number) 0 (showCall (pauliOf pauli) (now (out .entry))) ⌝ }
-    ensures text { λ _. ⌜ now (out .exit) ≡ bufferAfter (showCall (pauliOf pauli) (now (out .entry))) (shown (pauliOf pauli)) (now (out .entry)) ⌝ }
+    ensures { λ r. let P = pauliOf pauli in
+        let told = showCall P (now (out .entry)) in
+        ⌜ Seen (r .verdict) (r .number) 0 told × (now (out .exit) ≡ bufferAfter told (shown P) (now (out .entry))) ⌝ }
 {
     seen::text(paulitext::display(pauli, out))
 }

@@ -21,10 +21,10 @@ ghost use Rattle.bitlaws.specs.Digit.{bitOf};
 ghost use Rattle.paulilaws.specs.Letter.{letterOf};
 ghost use Rattle.paulilaws.specs.Letter.Letter.{I as Letter·I};
 ghost use Rattle.paulilaws.specs.Pauli as book;
-ghost use Rattle.bits.specs.Opening.{told};
-ghost use Rattle.paulis.specs.Strings.{pauliOf, letterMeant, bitTold, letterTold, supportTold, outcomeTold, Made};
-ghost use Rattle.pauligroup.specs.Calls.{phaseTold};
-ghost use Rattle.paulitext.specs.Calls.{readTold, textTold, Read};
+ghost use Rattle.bits.specs.Opening.{openedOf};
+ghost use Rattle.paulis.specs.Strings.{pauliOf, pauliLetterOf, bitAnswerOf, letterAnswerOf, supportAnswerOf, outcomeOf, Made};
+ghost use Rattle.pauligroup.specs.Calls.{phaseAnswerOf};
+ghost use Rattle.paulitext.specs.Calls.{readingOf, textAnswerOf, Read};
 ghost use Rattle.verdicts.specs.Flag as table;
 ghost use Rattle.verdicts.specs.Verdict.{verdictOf, Seen};
 ghost use Rattle.pauli_exports.specs.Qubit.{SeenQubit};
@@ -53,7 +53,7 @@ pub struct SeenPauli {
 }
 
 pub(crate) fn bit(answer: BitAnswer) -> SeenBit
-    ensures { λ r. ⌜ Seen (r .verdict) (r .bit) false (bitTold answer) ⌝ }
+    ensures { λ r. ⌜ Seen (r .verdict) (r .bit) false (bitAnswerOf answer) ⌝ }
 {
     match answer {
         BitAnswer::Bit(bit) => verdicts::bit(bit),
@@ -62,7 +62,7 @@ pub(crate) fn bit(answer: BitAnswer) -> SeenBit
 }
 
 pub(crate) fn opened(answer: Opened) -> SeenNumber
-    ensures { λ r. ⌜ Seen (r .verdict) (r .number) 0 (told answer) ⌝ }
+    ensures { λ r. ⌜ Seen (r .verdict) (r .number) 0 (openedOf answer) ⌝ }
 {
     match answer {
         Opened::Index(index) => verdicts::number(index),
@@ -71,7 +71,7 @@ pub(crate) fn opened(answer: Opened) -> SeenNumber
 }
 
 pub(crate) fn phase(answer: PhaseAnswer) -> SeenNumber
-    ensures { λ r. ⌜ Seen (r .verdict) (r .number) 0 (phaseTold answer) ⌝ }
+    ensures { λ r. ⌜ Seen (r .verdict) (r .number) 0 (phaseAnswerOf answer) ⌝ }
 {
     match answer {
         PhaseAnswer::Exponent(exponent) => verdicts::number(exponent as usize),
@@ -80,7 +80,7 @@ pub(crate) fn phase(answer: PhaseAnswer) -> SeenNumber
 }
 
 pub(crate) fn text(answer: TextAnswer) -> SeenNumber
-    ensures { λ r. ⌜ Seen (r .verdict) (r .number) 0 (textTold answer) ⌝ }
+    ensures { λ r. ⌜ Seen (r .verdict) (r .number) 0 (textAnswerOf answer) ⌝ }
 {
     match answer {
         TextAnswer::Length(length) => verdicts::number(length),
@@ -90,7 +90,7 @@ pub(crate) fn text(answer: TextAnswer) -> SeenNumber
 
 // By its parts; `verdict` is that of the answer whose letter it is.
 fn parts(verdict: Verdict, letter: Pauli) -> SeenLetter
-    ensures { λ r. ⌜ (r .verdict ≡ verdict) × (letterOf (bitOf (r .x)) (bitOf (r .z)) ≡ letterMeant letter) ⌝ }
+    ensures { λ r. ⌜ (r .verdict ≡ verdict) × (letterOf (bitOf (r .x)) (bitOf (r .z)) ≡ pauliLetterOf letter) ⌝ }
 {
     match letter {
         Pauli::I => SeenLetter {
@@ -117,7 +117,7 @@ fn parts(verdict: Verdict, letter: Pauli) -> SeenLetter
 }
 
 pub(crate) fn letter(answer: LetterAnswer) -> SeenLetter
-    ensures { λ r. ⌜ Seen (r .verdict) (letterOf (bitOf (r .x)) (bitOf (r .z))) Letter·I (letterTold answer) ⌝ }
+    ensures { λ r. ⌜ Seen (r .verdict) (letterOf (bitOf (r .x)) (bitOf (r .z))) Letter·I (letterAnswerOf answer) ⌝ }
 {
     match answer {
         LetterAnswer::Letter(letter) => parts(verdicts::accepted(), letter),
@@ -126,7 +126,7 @@ pub(crate) fn letter(answer: LetterAnswer) -> SeenLetter
 }
 
 pub(crate) fn support(answer: SupportAnswer) -> SeenSupport
-    ensures { λ r. ⌜ SeenQubit (r .verdict) (r .found) (r .qubit) (supportTold answer) ⌝ }
+    ensures { λ r. ⌜ SeenQubit (r .verdict) (r .found) (r .qubit) (supportAnswerOf answer) ⌝ }
 {
     match answer {
         SupportAnswer::Qubit(qubit) => SeenSupport {
@@ -148,7 +148,7 @@ pub(crate) fn support(answer: SupportAnswer) -> SeenSupport
 }
 
 fn outcome(outcome: Outcome) -> Verdict
-    ensures { λ r. ⌜ ((P : book.Pauli) → r ≡ verdictOf (outcomeTold outcome P)) ⌝ }
+    ensures { λ r. ⌜ ((P : book.Pauli) → r ≡ verdictOf (outcomeOf outcome P)) ⌝ }
 {
     match outcome {
         Outcome::Done => verdicts::accepted(),
@@ -181,7 +181,7 @@ pub(crate) fn behind(seen: SeenPauli, row: u8) -> SeenPauli
 }
 
 fn reading(reading: Reading) -> Verdict
-    ensures { λ r. ⌜ ((P : book.Pauli) → r ≡ verdictOf (readTold reading P)) ⌝ }
+    ensures { λ r. ⌜ ((P : book.Pauli) → r ≡ verdictOf (readingOf reading P)) ⌝ }
 {
     match reading {
         Reading::Done => verdicts::accepted(),

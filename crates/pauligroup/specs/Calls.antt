@@ -1,4 +1,4 @@
--- What each call of the crate answers: the rows of the table that refuse it, lowest number first, then its value. Assumes nothing.
+-- What each call of the crate answers: the rows of the table that refuse it, lowest number first, then its value.
 use mathlib.Core.Bool.{Bool, not, _&&_}
 use Prim.Native.Nat.{ℕ}
 use lib.Dec.{eqb}
@@ -10,9 +10,9 @@ use Rattle.pauligroup.specs.declared.PhaseAnswer.{PhaseAnswer}
 use Rattle.pauligroup.specs.declared.PhaseAnswer.the-variants as phase
 
 -- the answer that each case of the enum is
-abbrev pub phaseTold : PhaseAnswer → Answer ℕ
-phaseTold (phase.Exponent k) = accepted k
-phaseTold (phase.Refused n) = refused n
+abbrev pub phaseAnswerOf : PhaseAnswer → Answer ℕ
+phaseAnswerOf (phase.Exponent k) = accepted k
+phaseAnswerOf (phase.Refused n) = refused n
 
 -- rows 3 and 4: no Paulis, or of different widths
 unfoldable pub onPair : {A : Type 0} → Pauli → Pauli → Answer A → Answer A

@@ -1,4 +1,4 @@
--- Which row of the table answers a call on two Paulis, from the tests that the code makes. Assumes nothing.
+-- Which row of the table answers a call on two Paulis, from the tests that the code makes.
 use mathlib.Core.Path.{_≡_}
 use mathlib.Core.Bool.{Bool, true, false, not, _&&_}
 use borrow.Author.Tests.{eq-eqb, ne-eqb}

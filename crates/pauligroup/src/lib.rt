@@ -6,8 +6,8 @@ use paulis::BitAnswer;
 use paulis::PauliAnswer;
 use paulis::PauliString;
 ghost use mathlib.Core.Path.{_≡_};
-ghost use Rattle.paulis.specs.Strings.{pauliOf, bitTold, Made};
-ghost use Rattle.pauligroup.specs.Calls.{phaseTold, productCall, anticommutesCall, coefficientCall, squaresCall, signCall};
+ghost use Rattle.paulis.specs.Strings.{pauliOf, bitAnswerOf, Made};
+ghost use Rattle.pauligroup.specs.Calls.{phaseAnswerOf, productCall, anticommutesCall, coefficientCall, squaresCall, signCall};
 
 pub enum PhaseAnswer {
     Exponent(u8),
@@ -29,7 +29,7 @@ pub fn mul(lhs: PauliString, rhs: PauliString) -> PauliAnswer
 
 // Symplectic inner product: true when `a` and `b` anticommute.
 pub fn pauli_anticommutes(a: PauliString, b: PauliString) -> BitAnswer
-    ensures { λ r. ⌜ bitTold r ≡ anticommutesCall (pauliOf a) (pauliOf b) ⌝ }
+    ensures { λ r. ⌜ bitAnswerOf r ≡ anticommutesCall (pauliOf a) (pauliOf b) ⌝ }
 {
     if !(a.is_pauli() & b.is_pauli()) {
         return BitAnswer::Refused(3);
@@ -42,7 +42,7 @@ pub fn pauli_anticommutes(a: PauliString, b: PauliString) -> BitAnswer
 
 // The exponent of i in front of the letters: the phase minus the number of Ys, modulo 4.
 pub fn coefficient_phase(pauli: PauliString) -> PhaseAnswer
-    ensures { λ r. ⌜ phaseTold r ≡ coefficientCall (pauliOf pauli) ⌝ }
+    ensures { λ r. ⌜ phaseAnswerOf r ≡ coefficientCall (pauliOf pauli) ⌝ }
 {
     if !pauli.is_pauli() {
         return PhaseAnswer::Refused(3);
@@ -52,7 +52,7 @@ pub fn coefficient_phase(pauli: PauliString) -> PhaseAnswer
 
 // True when the operator is Hermitian, that is its coefficient is real.
 pub fn pauli_squares_to_identity(pauli: PauliString) -> BitAnswer
-    ensures { λ r. ⌜ bitTold r ≡ squaresCall (pauliOf pauli) ⌝ }
+    ensures { λ r. ⌜ bitAnswerOf r ≡ squaresCall (pauliOf pauli) ⌝ }
 {
     if !pauli.is_pauli() {
         return BitAnswer::Refused(3);
@@ -62,7 +62,7 @@ pub fn pauli_squares_to_identity(pauli: PauliString) -> BitAnswer
 
 // The sign of a Hermitian Pauli: false for +P, true for -P.
 pub fn measurement_phase_sign(pauli: PauliString) -> BitAnswer
-    ensures { λ r. ⌜ bitTold r ≡ signCall (pauliOf pauli) ⌝ }
+    ensures { λ r. ⌜ bitAnswerOf r ≡ signCall (pauliOf pauli) ⌝ }
 {
     if !pauli.is_pauli() {
         return BitAnswer::Refused(3);

@@ -1,4 +1,4 @@
--- What a Pauli does to a basis state, as Nielsen and Chuang have it: a phase, and another basis state. Assumes nothing.
+-- What a Pauli does to a basis state, as Nielsen and Chuang have it: a phase, and another basis state.
 use mathlib.Core.Path.{_≡_, refl, sym, ap, _∙_}
 use mathlib.Core.Logic.{⊎-elim, _↔_}
 use Prim.Native.Nat.{ℕ, _+_, _*_, _%_, _<_}
@@ -20,8 +20,8 @@ pub ket-same : {s t : Ket} → s .phase ≡ t .phase → s .basis ≡ t .basis �
 ket-same p b = λ i. record { phase = p i; basis = b i }
 
 -- P sends basis state b to i^k (-1)^parity(b and z) times basis state b xor x
-unfoldable pub acts : Pauli → Ket → Ket
-acts P s = record {
+unfoldable pub onKet : Pauli → Ket → Ket
+onKet P s = record {
   phase = (s .phase + P .k + 2 * overlap (s .basis) (P .z)) % 4;
   basis = bitXor (s .basis) (P .x);
 }
@@ -52,8 +52,8 @@ composed s a b u v w =
     ∙ sym (half-turns-within (s + b + 2 * v) a (u + w))
 
 -- the product is the composition of the actions
-pub product-acts : (A B : Pauli) (s : Ket) → acts (product A B) s ≡ acts A (acts B s)
-unfolding acts product
+pub product-acts : (A B : Pauli) (s : Ket) → onKet (product A B) s ≡ onKet A (onKet B s)
+unfolding onKet product
 product-acts A B s =
     let b : ℕ = s .basis in
     ket-same
@@ -77,8 +77,8 @@ exchanged s a b u v p q =
     ∙ ap (λ (m : ℕ). m % 4) more)
 
 -- A B = (-1)^(anti A B) B A
-pub exchange : (A B : Pauli) (s : Ket) → acts A (acts B s) ≡ turned (2 * anti A B) (acts B (acts A s))
-unfolding acts turned anti
+pub exchange : (A B : Pauli) (s : Ket) → onKet A (onKet B s) ≡ turned (2 * anti A B) (onKet B (onKet A s))
+unfolding onKet turned anti
 exchange A B s =
     let b : ℕ = s .basis in
     ket-same
@@ -93,8 +93,8 @@ anti-lt : (A B : Pauli) → anti A B < 2
 unfolding anti
 anti-lt A B = mod-two (overlap (A .x) (B .z) + overlap (A .z) (B .x))
 
-acts-phase : (P : Pauli) (s : Ket) → (acts P s) .phase < 4
-unfolding acts
+acts-phase : (P : Pauli) (s : Ket) → (onKet P s) .phase < 4
+unfolding onKet
 acts-phase P s = mod-lt (s .phase + P .k + 2 * overlap (s .basis) (P .z)) (zero-lt-suc 3)
 
 turned-none : (s : Ket) → s .phase < 4 → turned 0 s ≡ s
@@ -110,26 +110,26 @@ module _ (A B : Pauli) where
   start : Ket
   start = record { phase = 0; basis = 0 }
 
-  when-even : anti A B ≡ 0 → (s : Ket) → acts A (acts B s) ≡ acts B (acts A s)
-  when-even e s = exchange A B s ∙ ap (λ (t : ℕ). turned (2 * t) (acts B (acts A s))) e ∙ turned-none (acts B (acts A s)) (acts-phase B (acts A s))
+  when-even : anti A B ≡ 0 → (s : Ket) → onKet A (onKet B s) ≡ onKet B (onKet A s)
+  when-even e s = exchange A B s ∙ ap (λ (t : ℕ). turned (2 * t) (onKet B (onKet A s))) e ∙ turned-none (onKet B (onKet A s)) (acts-phase B (onKet A s))
 
-  when-odd : anti A B ≡ 1 → (s : Ket) → acts A (acts B s) ≡ turned 2 (acts B (acts A s))
-  when-odd e s = exchange A B s ∙ ap (λ (t : ℕ). turned (2 * t) (acts B (acts A s))) e
+  when-odd : anti A B ≡ 1 → (s : Ket) → onKet A (onKet B s) ≡ turned 2 (onKet B (onKet A s))
+  when-odd e s = exchange A B s ∙ ap (λ (t : ℕ). turned (2 * t) (onKet B (onKet A s))) e
 
   -- anti is 1 exactly when A B = - B A
-  pub anticommute : (anti A B ≡ 1) ↔ ((s : Ket) → acts A (acts B s) ≡ turned 2 (acts B (acts A s)))
+  pub anticommute : (anti A B ≡ 1) ↔ ((s : Ket) → onKet A (onKet B s) ≡ turned 2 (onKet B (onKet A s)))
   anticommute = (
     when-odd,
     λ h. ⊎-elim (λ (e : anti A B ≡ 1). e)
-        (λ (l : anti A B < 1). absurd (never-half (acts B (acts A start)) (acts-phase B (acts A start)) (sym (when-even (omega arith) start) ∙ h start)))
+        (λ (l : anti A B < 1). absurd (never-half (onKet B (onKet A start)) (acts-phase B (onKet A start)) (sym (when-even (omega arith) start) ∙ h start)))
         (last-or-before (anti-lt A B)),
   )
 
   -- and 0 exactly when A B = B A
-  pub commute : (anti A B ≡ 0) ↔ ((s : Ket) → acts A (acts B s) ≡ acts B (acts A s))
+  pub commute : (anti A B ≡ 0) ↔ ((s : Ket) → onKet A (onKet B s) ≡ onKet B (onKet A s))
   commute = (
     when-even,
-    λ h. ⊎-elim (λ (e : anti A B ≡ 1). absurd (never-half (acts B (acts A start)) (acts-phase B (acts A start)) (sym (h start) ∙ when-odd e start)))
+    λ h. ⊎-elim (λ (e : anti A B ≡ 1). absurd (never-half (onKet B (onKet A start)) (acts-phase B (onKet A start)) (sym (h start) ∙ when-odd e start)))
         (λ (l : anti A B < 1). omega arith)
         (last-or-before (anti-lt A B)),
   )

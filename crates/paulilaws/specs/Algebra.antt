@@ -1,4 +1,4 @@
--- The algebra of Paulis: the identity is neutral, the product associates, and a Pauli is Hermitian exactly when its square is the identity. Assumes nothing.
+-- The algebra of Paulis: the identity is neutral, the product associates, and a Pauli is Hermitian exactly when its square is the identity.
 use mathlib.Core.Path.{_≡_, refl, sym, ap, _∙_}
 use mathlib.Core.Bool.{Bool, true, false, cond}
 use mathlib.Core.Logic.{_↔_}

@@ -1,4 +1,4 @@
--- A Pauli on its own qubits, and what row 3 lets pass, as facts. Assumes nothing.
+-- A Pauli on its own qubits, and what row 3 lets pass, as facts.
 use mathlib.Core.Path.{_≡_, refl}
 use mathlib.Core.Bool.{Bool, true, false, _&&_}
 use Prim.Native.Nat.{ℕ, _%_, _^_, _≤_, _<_}

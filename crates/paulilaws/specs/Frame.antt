@@ -1,4 +1,4 @@
--- What carrying does to a Pauli besides multiplying it: a phase raised, a qubit dropped. Assumes nothing.
+-- What carrying does to a Pauli besides multiplying it: a phase raised, a qubit dropped.
 use mathlib.Core.Path.{_≡_, refl, sym, ap, _∙_}
 use Prim.Native.Nat.{ℕ, _+_, _-_, _*_, _%_}
 use native.Mathlib.Nat.{mod-add-mod}
@@ -8,7 +8,7 @@ use Rattle.bitlaws.specs.Opening.{openBit, dropBit, drop-open}
 use Rattle.bitlaws.specs.Parity.{overlap}
 use Rattle.bitlaws.specs.Pivot.{drop-xor, overlap-open}
 use Rattle.paulilaws.specs.Pauli.{Pauli}
-use Rattle.paulilaws.specs.Action.{Ket, ket-same, acts, turned}
+use Rattle.paulilaws.specs.Action.{Ket, ket-same, onKet, turned}
 
 -- times i^e
 unfoldable pub raised : ℕ → Pauli → Pauli
@@ -25,14 +25,14 @@ whole-phase s k e u =
     ap (λ (m : ℕ). m % 4) regroup ∙ mod-add-mod (k + e) 4 (s + 2 * u) ∙ ap (λ (m : ℕ). m % 4) same ∙ sym (mod-add-mod (s + k + 2 * u) 4 e)
 
 -- a raised phase is the action, turned
-pub raised-acts : (e : ℕ) (P : Pauli) (s : Ket) → acts (raised e P) s ≡ turned e (acts P s)
-unfolding acts raised turned
+pub raised-acts : (e : ℕ) (P : Pauli) (s : Ket) → onKet (raised e P) s ≡ turned e (onKet P s)
+unfolding onKet raised turned
 raised-acts e P s = ket-same (whole-phase (s .phase) (P .k) e (overlap (s .basis) (P .z))) refl
 
 -- dropping a qubit is acting on the basis with the qubit at 0, and leaving out its bit of what comes
 pub dropped-acts : (q : ℕ) (P : Pauli) (s : Ket)
-    → let t = acts P (record { phase = s .phase; basis = openBit q (s .basis) }) in acts (dropped q P) s ≡ record { phase = t .phase; basis = dropBit q (t .basis) }
-unfolding acts dropped
+    → let t = onKet P (record { phase = s .phase; basis = openBit q (s .basis) }) in onKet (dropped q P) s ≡ record { phase = t .phase; basis = dropBit q (t .basis) }
+unfolding onKet dropped
 dropped-acts q P s =
     ket-same
     (ap (λ (m : ℕ). (s .phase + P .k + 2 * m) % 4) (sym (overlap-open q (s .basis) (P .z))))

@@ -1,4 +1,4 @@
--- The letters of a Pauli, one to a qubit: reading one, and setting one, which keeps the coefficient. Assumes nothing.
+-- The letters of a Pauli, one to a qubit: reading one, and setting one, which keeps the coefficient.
 use mathlib.Core.Path.{_≡_, refl, sym, ap, ap₂, _∙_}
 use Prim.Native.Nat.{ℕ, zero, suc, _+_, _*_, _/_, _%_, _^_, _<_, min}
 use native.Mathlib.Omega.{arith}

@@ -1,4 +1,4 @@
--- Pauli operators on any number of qubits. Assumes nothing.
+-- Pauli operators on any number of qubits.
 use mathlib.Core.Path.{_≡_}
 use mathlib.Core.Bool.{Bool, cond, _&&_}
 use Prim.Native.Nat.{ℕ, _+_, _*_, _%_, _^_}

@@ -1,4 +1,4 @@
--- The letters as Nielsen and Chuang print them: what I, X, Y and Z on one qubit do to |0> and |1>. Assumes nothing.
+-- The letters as Nielsen and Chuang print them: what I, X, Y and Z on one qubit do to |0> and |1>.
 use mathlib.Core.Path.{_≡_, refl}
 use Prim.Native.Nat.{ℕ}
 use lib.Count.{ones}
@@ -7,7 +7,7 @@ use Rattle.bitlaws.specs.Parity.{parity, overlap}
 use Rattle.paulilaws.specs.Pauli.{identity}
 use Rattle.paulilaws.specs.Letter.{Letter, letterAt, withLetter}
 use Rattle.paulilaws.specs.Letter.Letter.{I, X, Y, Z}
-use Rattle.paulilaws.specs.Action.{Ket, acts}
+use Rattle.paulilaws.specs.Action.{Ket, onKet}
 
 -- i^phase |basis>
 abbrev times-i : ℕ → ℕ → Ket
@@ -15,7 +15,7 @@ times-i phase basis = record { phase = phase; basis = basis }
 
 -- what a letter alone makes of a basis state of its qubit
 unfoldable pub sent : Letter → ℕ → Ket
-sent l b = acts (withLetter 0 l (identity 1)) (times-i 0 b)
+sent l b = onKet (withLetter 0 l (identity 1)) (times-i 0 b)
 
 pub record Printed : Type 0 where
   pub i-zero : sent I 0 ≡ times-i 0 0
@@ -28,5 +28,5 @@ pub record Printed : Type 0 where
   pub z-one : sent Z 1 ≡ times-i 2 1
 
 pub printed : Printed
-unfolding sent acts withLetter letterAt digit put overlap parity ones
+unfolding sent onKet withLetter letterAt digit put overlap parity ones
 printed = record { i-zero = refl; i-one = refl; x-zero = refl; x-one = refl; y-zero = refl; y-one = refl; z-zero = refl; z-one = refl }

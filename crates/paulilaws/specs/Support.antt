@@ -1,4 +1,4 @@
--- The highest qubit on which a Pauli is not the identity. Assumes nothing.
+-- The highest qubit on which a Pauli is not the identity.
 use mathlib.Core.Path.{_≡_, refl, sym, ap₂, _∙_}
 use mathlib.Core.Logic.{_↔_}
 use mathlib.Core.Option.{Option, none, some}

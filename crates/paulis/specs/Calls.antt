@@ -1,4 +1,4 @@
--- What each call of the crate answers: the rows of the table that refuse it, lowest number first, then its value. Assumes nothing.
+-- What each call of the crate answers: the rows of the table that refuse it, lowest number first, then its value.
 use mathlib.Core.Bool.{Bool, not}
 use mathlib.Core.Option.{Option}
 use Prim.Native.Nat.{ℕ}

@@ -1,4 +1,4 @@
--- A promise on what a PauliString means says all of it: two with equal meaning are equal, field by field and word by word. Assumes nothing.
+-- A promise on what a PauliString means says all of it: two with equal meaning are equal, field by field and word by word.
 use mathlib.Core.Path.{_≡_, sym, ap, _∙_}
 use mathlib.Core.List.{List}
 use Prim.Native.Nat.{ℕ}

@@ -1,4 +1,4 @@
--- Which row of the table answers a call, from the tests that the code makes. Assumes nothing.
+-- Which row of the table answers a call, from the tests that the code makes.
 use mathlib.Core.Path.{_≡_, sym, _∙_}
 use mathlib.Core.Bool.{Bool, true, false, not}
 use Prim.Native.Nat.{ℕ, _≤_, _<_}

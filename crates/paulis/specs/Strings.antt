@@ -1,4 +1,4 @@
--- What the declared types mean: a PauliString is a Pauli, and each case of an answer's enum is an answer of the scope. Assumes nothing.
+-- What the declared types mean: a PauliString is a Pauli, and each case of an answer's enum is an answer of the scope.
 use mathlib.Core.Path.{_≡_}
 use mathlib.Core.Bool.{Bool}
 use mathlib.Core.Option.{Option, none, some}
@@ -24,30 +24,30 @@ use Rattle.paulis.specs.declared.SupportAnswer.the-variants as support
 abbrev pub pauliOf : PauliString → Pauli
 pauliOf s = record { n = s .nqubits; k = s .phase; x = mask (s .x); z = mask (s .z) }
 
-abbrev pub letterMeant : one.Pauli → Letter
-letterMeant single.I = Letter.I
-letterMeant single.X = Letter.X
-letterMeant single.Z = Letter.Z
-letterMeant single.Y = Letter.Y
+abbrev pub pauliLetterOf : one.Pauli → Letter
+pauliLetterOf single.I = Letter.I
+pauliLetterOf single.X = Letter.X
+pauliLetterOf single.Z = Letter.Z
+pauliLetterOf single.Y = Letter.Y
 
-abbrev pub bitTold : BitAnswer → Answer Bool
-bitTold (bit.Bit b) = accepted b
-bitTold (bit.Refused n) = refused n
+abbrev pub bitAnswerOf : BitAnswer → Answer Bool
+bitAnswerOf (bit.Bit b) = accepted b
+bitAnswerOf (bit.Refused n) = refused n
 
-abbrev pub letterTold : LetterAnswer → Answer Letter
-letterTold (read.Letter l) = accepted (letterMeant l)
-letterTold (read.Refused n) = refused n
+abbrev pub letterAnswerOf : LetterAnswer → Answer Letter
+letterAnswerOf (read.Letter l) = accepted (pauliLetterOf l)
+letterAnswerOf (read.Refused n) = refused n
 
-abbrev pub supportTold : SupportAnswer → Answer (Option ℕ)
-supportTold (support.Qubit q) = accepted (some q)
-supportTold support.Identity = accepted none
-supportTold (support.Refused n) = refused n
+abbrev pub supportAnswerOf : SupportAnswer → Answer (Option ℕ)
+supportAnswerOf (support.Qubit q) = accepted (some q)
+supportAnswerOf support.Identity = accepted none
+supportAnswerOf (support.Refused n) = refused n
 
-abbrev pub outcomeTold : Outcome → Pauli → Answer Pauli
-outcomeTold outcome.Done P = accepted P
-outcomeTold (outcome.Refused n) P = refused n
+abbrev pub outcomeOf : Outcome → Pauli → Answer Pauli
+outcomeOf outcome.Done P = accepted P
+outcomeOf (outcome.Refused n) P = refused n
 
 -- r is the answer a: the outcome tells it, and beside a refusal stands the identity on no qubits
 pub record Made (r : PauliAnswer) (a : Answer Pauli) : Type 0 where
-  pub told : outcomeTold (r .outcome) (pauliOf (r .pauli)) ≡ a
+  pub told : outcomeOf (r .outcome) (pauliOf (r .pauli)) ≡ a
   pub beside : pauliOf (r .pauli) ≡ valueOr (identity 0) a

@@ -8,11 +8,11 @@ ghost use Rattle.paulilaws.specs.Letter as book;
 ghost use Rattle.bitlaws.specs.Digit.{bitOf};
 ghost use Rattle.masks.specs.Mask.{mask};
 ghost use Rattle.paulis.specs.Calls.{bitCall};
-ghost use Rattle.paulis.specs.Strings.{pauliOf, bitTold, letterMeant};
+ghost use Rattle.paulis.specs.Strings.{pauliOf, bitAnswerOf, pauliLetterOf};
 
 // Qubit q's bit of a mask of the Pauli, which is looked at here.
 pub(crate) fn mask_bit(pauli: PauliString, words: [u64; 4], q: usize) -> BitAnswer
-    ensures { λ r. ⌜ bitTold r ≡ bitCall (pauliOf pauli) (mask words) q ⌝ }
+    ensures { λ r. ⌜ bitAnswerOf r ≡ bitCall (pauliOf pauli) (mask words) q ⌝ }
 {
     if !pauli.is_pauli() {
         return BitAnswer::Refused(3);
@@ -25,7 +25,7 @@ pub(crate) fn mask_bit(pauli: PauliString, words: [u64; 4], q: usize) -> BitAnsw
 
 // Qubit q's letter.
 pub(crate) fn at(pauli: PauliString, q: usize) -> Pauli
-    ensures { λ r. ⌜ letterMeant r ≡ book.letterAt q (pauliOf pauli) ⌝ }
+    ensures { λ r. ⌜ pauliLetterOf r ≡ book.letterAt q (pauliOf pauli) ⌝ }
 {
     let x = pauli.x;
     let z = pauli.z;
@@ -36,7 +36,7 @@ pub(crate) fn at(pauli: PauliString, q: usize) -> Pauli
 // an old one.
 pub(crate) fn with(pauli: PauliString, q: usize, letter: Pauli) -> PauliString
     requires { ⌜ (q < 256) × (pauli .phase ≤ 3) ⌝ }
-    ensures { λ r. ⌜ pauliOf r ≡ book.withLetter q (letterMeant letter) (pauliOf pauli) ⌝ }
+    ensures { λ r. ⌜ pauliOf r ≡ book.withLetter q (pauliLetterOf letter) (pauliOf pauli) ⌝ }
 {
     let x = pauli.x;
     let z = pauli.z;
@@ -50,7 +50,7 @@ pub(crate) fn with(pauli: PauliString, q: usize, letter: Pauli) -> PauliString
 }
 
 fn from_bits(x: bool, z: bool) -> Pauli
-    ensures { λ r. ⌜ letterMeant r ≡ book.letterOf (bitOf x) (bitOf z) ⌝ }
+    ensures { λ r. ⌜ pauliLetterOf r ≡ book.letterOf (bitOf x) (bitOf z) ⌝ }
 {
     if x {
         if z { Pauli::Y } else { Pauli::X }
@@ -60,7 +60,7 @@ fn from_bits(x: bool, z: bool) -> Pauli
 }
 
 fn x_part(letter: Pauli) -> bool
-    ensures { λ r. ⌜ bitOf r ≡ book.xPart (letterMeant letter) ⌝ }
+    ensures { λ r. ⌜ bitOf r ≡ book.xPart (pauliLetterOf letter) ⌝ }
 {
     match letter {
         Pauli::I => false,
@@ -71,7 +71,7 @@ fn x_part(letter: Pauli) -> bool
 }
 
 fn z_part(letter: Pauli) -> bool
-    ensures { λ r. ⌜ bitOf r ≡ book.zPart (letterMeant letter) ⌝ }
+    ensures { λ r. ⌜ bitOf r ≡ book.zPart (pauliLetterOf letter) ⌝ }
 {
     match letter {
         Pauli::I => false,
@@ -83,7 +83,7 @@ fn z_part(letter: Pauli) -> bool
 
 // 1 for Y, else 0.
 fn is_y(letter: Pauli) -> u8
-    ensures { λ r. ⌜ (r ≡ book.isY (letterMeant letter)) × (r ≤ 1) ⌝ }
+    ensures { λ r. ⌜ (r ≡ book.isY (pauliLetterOf letter)) × (r ≤ 1) ⌝ }
 {
     match letter {
         Pauli::I => 0,

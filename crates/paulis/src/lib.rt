@@ -11,10 +11,13 @@ ghost use Rattle.answers.specs.Answer.{Answer};
 ghost use Rattle.paulilaws.specs.Pauli as book;
 ghost use Rattle.paulilaws.specs.Pauli.{fits};
 ghost use Rattle.masks.specs.Mask.{mask};
-ghost use Rattle.paulis.specs.Strings.{pauliOf, bitTold, letterTold, supportTold, letterMeant, Made};
+ghost use Rattle.paulis.specs.Strings.{pauliOf, bitAnswerOf, letterAnswerOf, supportAnswerOf, pauliLetterOf, Made};
 ghost use Rattle.paulis.specs.Calls.{identityCall, partsCall, bitCall, getCall, setCall, supportCall};
 
-// A Pauli operator on `nqubits` qubits, at most 256, with a phase exponent of i in 0..3.
+// The widest Pauli.
+pub const MOST_QUBITS: usize = 256;
+
+// A Pauli operator on `nqubits` qubits, at most MOST_QUBITS, with a phase exponent of i in 0..3.
 #[repr(C)]
 pub struct PauliString {
     pub nqubits: usize,
@@ -95,7 +98,7 @@ impl PauliString {
     pub fn new(nqubits: usize) -> PauliAnswer
         ensures { λ r. ⌜ Made r (identityCall nqubits) ⌝ }
     {
-        if 256 < nqubits {
+        if MOST_QUBITS < nqubits {
             return PauliAnswer::refused(3);
         }
         PauliAnswer::done(identity(nqubits))
@@ -125,7 +128,7 @@ impl PauliString {
         if 3 < self.phase {
             return false;
         }
-        if 256 < self.nqubits {
+        if MOST_QUBITS < self.nqubits {
             return false;
         }
         let x = self.x;
@@ -135,7 +138,7 @@ impl PauliString {
 
     // Whether qubit `q` has an X component.
     pub fn x_bit(self, q: usize) -> BitAnswer
-        ensures { λ r. ⌜ bitTold r ≡ bitCall (pauliOf self) (mask (self .x)) q ⌝ }
+        ensures { λ r. ⌜ bitAnswerOf r ≡ bitCall (pauliOf self) (mask (self .x)) q ⌝ }
     {
         let words = self.x;
         letter::mask_bit(self, words, q)
@@ -143,7 +146,7 @@ impl PauliString {
 
     // Whether qubit `q` has a Z component.
     pub fn z_bit(self, q: usize) -> BitAnswer
-        ensures { λ r. ⌜ bitTold r ≡ bitCall (pauliOf self) (mask (self .z)) q ⌝ }
+        ensures { λ r. ⌜ bitAnswerOf r ≡ bitCall (pauliOf self) (mask (self .z)) q ⌝ }
     {
         let words = self.z;
         letter::mask_bit(self, words, q)
@@ -151,7 +154,7 @@ impl PauliString {
 
     // The single-qubit Pauli acting on `q`.
     pub fn get(self, q: usize) -> LetterAnswer
-        ensures { λ r. ⌜ letterTold r ≡ getCall (pauliOf self) q ⌝ }
+        ensures { λ r. ⌜ letterAnswerOf r ≡ getCall (pauliOf self) q ⌝ }
     {
         if !self.is_pauli() {
             return LetterAnswer::Refused(3);
@@ -165,7 +168,7 @@ impl PauliString {
     // Replaces the Pauli acting on `q`. The phase follows the Ys, so the coefficient in front of
     // the letters stays.
     pub fn set(self, q: usize, pauli: Pauli) -> PauliAnswer
-        ensures { λ r. ⌜ Made r (setCall (pauliOf self) q (letterMeant pauli)) ⌝ }
+        ensures { λ r. ⌜ Made r (setCall (pauliOf self) q (pauliLetterOf pauli)) ⌝ }
     {
         if !self.is_pauli() {
             return PauliAnswer::refused(3);
@@ -178,7 +181,7 @@ impl PauliString {
 
     // The largest qubit that carries a non-identity Pauli.
     pub fn max_support(self) -> SupportAnswer
-        ensures { λ r. ⌜ supportTold r ≡ supportCall (pauliOf self) ⌝ }
+        ensures { λ r. ⌜ supportAnswerOf r ≡ supportCall (pauliOf self) ⌝ }
     {
         if !self.is_pauli() {
             return SupportAnswer::Refused(3);

@@ -1,4 +1,4 @@
--- The bytes of a text, one by one. Assumes nothing.
+-- The bytes of a text, one by one.
 use mathlib.Core.Path.{_≡_, refl, ap, _∙_}
 use mathlib.Core.Logic.{_⊎_, inl, inr}
 use mathlib.Core.List.{[], _∷_, _++_}

@@ -1,4 +1,4 @@
--- What showing a Pauli answers and leaves, from the tests that the code makes. Assumes nothing.
+-- What showing a Pauli answers and leaves, from the tests that the code makes.
 use mathlib.Core.Path.{_≡_, sym, ap, _∙_}
 use mathlib.Core.Bool.{true, false}
 use mathlib.Core.List.{List, _++_}

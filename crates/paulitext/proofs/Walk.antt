@@ -1,4 +1,4 @@
--- The loops: a text read letter by letter into a Pauli, and a text written byte by byte into a buffer. Assumes nothing.
+-- The loops: a text read letter by letter into a Pauli, and a text written byte by byte into a buffer.
 use mathlib.Core.Path.{_≡_, refl, sym, ap, _∙_}
 use mathlib.Core.Bool.{Bool, true, false}
 use mathlib.Core.List.{List, _++_}

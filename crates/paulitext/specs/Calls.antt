@@ -1,4 +1,4 @@
--- What reading and showing a text answer, and what showing leaves in the lent buffer. Assumes nothing.
+-- What reading and showing a text answer, and what showing leaves in the lent buffer.
 use mathlib.Core.Path.{_≡_}
 use mathlib.Core.List.{List, _++_}
 use Prim.Native.Nat.{ℕ}
@@ -30,21 +30,21 @@ bufferAfter (accepted n) s out = s ++ drop n out
 bufferAfter (refused n) s out = out
 bufferAfter (refusedAt n i) s out = out
 
-abbrev pub readTold : Reading → Pauli → Answer Pauli
-readTold read.Done P = accepted P
-readTold (read.Refused n) P = refused n
-readTold (read.RefusedAt n i) P = refusedAt n i
+abbrev pub readingOf : Reading → Pauli → Answer Pauli
+readingOf read.Done P = accepted P
+readingOf (read.Refused n) P = refused n
+readingOf (read.RefusedAt n i) P = refusedAt n i
 
 -- r is the answer a: the reading tells it, and beside a refusal stands the identity on no qubits
 pub record Read (r : ReadAnswer) (a : Answer Pauli) : Type 0 where
-  pub told : readTold (r .reading) (pauliOf (r .pauli)) ≡ a
+  pub told : readingOf (r .reading) (pauliOf (r .pauli)) ≡ a
   pub beside : pauliOf (r .pauli) ≡ valueOr (identity 0) a
 
-abbrev pub textTold : TextAnswer → Answer ℕ
-textTold (text.Length n) = accepted n
-textTold (text.Refused n) = refused n
+abbrev pub textAnswerOf : TextAnswer → Answer ℕ
+textAnswerOf (text.Length n) = accepted n
+textAnswerOf (text.Refused n) = refused n
 
 -- r is what showing P into `out` answers, and `left` what it leaves there
 pub record Shown (P : Pauli) (out : List ℕ) (r : TextAnswer) (left : List ℕ) : Type 0 where
-  pub told : textTold r ≡ showCall P out
+  pub told : textAnswerOf r ≡ showCall P out
   pub buffer : left ≡ bufferAfter (showCall P out) (shown P) out

@@ -1,4 +1,4 @@
--- What a text that is shown and one that is read mean: one qubit to a byte, that byte's letter on it, and the coefficient 1. Assumes nothing.
+-- What a text that is shown and one that is read mean: one qubit to a byte, that byte's letter on it, and the coefficient 1.
 use mathlib.Core.Path.{_≡_, refl, sym, ap, _∙_, subst}
 use mathlib.Core.Bool.{Bool, true, false}
 use mathlib.Core.List.{List, [], _∷_}
@@ -37,16 +37,16 @@ letters-at q (suc count) (suc j) P h =
 -- ---- what is read
 
 -- R is P with the letters of bs set from qubit q on
-record Spelled (q : ℕ) (bs : List ℕ) (P R : Pauli) : Type 0 where
-  width : R .n ≡ P .n
-  same : coefficient R ≡ coefficient P
-  before : (i : ℕ) → i < q → letterAt i R ≡ letterAt i P
-  letters : (i : ℕ) → i < length bs → letterOfByte (getD bs i 0) ≡ some (letterAt (q + i) R)
+pub record Spelled (q : ℕ) (bs : List ℕ) (P R : Pauli) : Type 0 where
+  pub width : R .n ≡ P .n
+  pub same : coefficient R ≡ coefficient P
+  pub before : (i : ℕ) → i < q → letterAt i R ≡ letterAt i P
+  pub letters : (i : ℕ) → i < length bs → letterOfByte (getD bs i 0) ≡ some (letterAt (q + i) R)
 
 never : {n i : ℕ} {R : Pauli} → refusedAt n i ≡ accepted R → ⊥
 never e = let z : _≡_ {A = ℕ} 0 1 = cc in omega arith
 
-spelled : (q : ℕ) (bs : List ℕ) (P R : Pauli) → reading q bs P ≡ accepted R → Spelled q bs P R
+pub spelled : (q : ℕ) (bs : List ℕ) (P R : Pauli) → reading q bs P ≡ accepted R → Spelled q bs P R
 unfolding reading withLetter
 spelled q [] P R e =
     let r : R ≡ P = cc in
@@ -74,7 +74,7 @@ spelled q (b ∷ bs) P R e =
             let place : suc q + i ≡ q + suc i = omega arith in
             s .letters i (omega arith) ∙ ap (λ (n : ℕ). some (letterAt n R)) place
 
-blank : (n : ℕ) → coefficient (identity n) ≡ 0
+pub blank : (n : ℕ) → coefficient (identity n) ≡ 0
 unfolding coefficient ys
 blank n = omega (arith, ap ones (and-zero-l 0), ones-zero)
 

@@ -1,4 +1,4 @@
--- The text of a Pauli whose coefficient is 1, read again, is that Pauli, where it has a qubit. Assumes nothing.
+-- The text of a Pauli whose coefficient is 1, read again, is that Pauli, where it has a qubit.
 use mathlib.Core.Path.{_≡_, refl, sym, ap, ap₂, _∙_, subst}
 use mathlib.Core.List.{List, _++_}
 use mathlib.Core.Option.{Option, some}
@@ -21,7 +21,7 @@ use Rattle.paulitext.specs.Laws.{letters-length, letters-at, Text, read-
 
 -- ---- bytes and letters
 
-byte-letter : (l : Letter) → letterOfByte (byteOf l) ≡ some l
+pub byte-letter : (l : Letter) → letterOfByte (byteOf l) ≡ some l
 unfolding letterOfByte
 byte-letter Letter.I = refl
 byte-letter Letter.X = refl
@@ -30,12 +30,12 @@ byte-letter Letter.Y = refl
 
 -- ---- the letters of P, read into any R, are accepted, and what is read fits
 
-record Taken (q count : ℕ) (P R : Pauli) : Type 0 where
-  read : Pauli
-  is : reading q (lettersFrom q count P) R ≡ accepted read
-  fitting : Fitting read
+pub record Taken (q count : ℕ) (P R : Pauli) : Type 0 where
+  pub read : Pauli
+  pub is : reading q (lettersFrom q count P) R ≡ accepted read
+  pub fitting : Fitting read
 
-taken : (q count : ℕ) (P R : Pauli) → q + count ≤ R .n → Fitting R → Taken q count P R
+pub taken : (q count : ℕ) (P R : Pauli) → q + count ≤ R .n → Fitting R → Taken q count P R
 unfolding reading lettersFrom withLetter
 taken q zero P R h f = record { read = R; is = refl; fitting = f }
 taken q (suc count) P R h f =
@@ -68,7 +68,7 @@ z-of (suc a) (suc (suc b)) h = absurd (omega arith)
 phases-same : (k l y : ℕ) → k ≤ 3 → l ≤ 3 → (k + 3 * y) % 4 ≡ (l + 3 * y) % 4 → k ≡ l
 phases-same k l y hk hl e = omega arith
 
-letters-same : (P R : Pauli) → Fitting P → Fitting R → P .n ≡ R .n → coefficient P ≡ coefficient R
+pub letters-same : (P R : Pauli) → Fitting P → Fitting R → P .n ≡ R .n → coefficient P ≡ coefficient R
     → ((i : ℕ) → i < P .n → letterAt i P ≡ letterAt i R) → P ≡ R
 unfolding letterAt coefficient ys
 letters-same P R fp fr n c e =
@@ -84,10 +84,10 @@ letters-same P R fp fr n c e =
 
 -- ---- the round trip
 
-some-same : {l m : Letter} → some l ≡ some m → l ≡ m
+pub some-same : {l m : Letter} → some l ≡ some m → l ≡ m
 some-same e = cc
 
-spelled-out : (n : ℕ) (P : Pauli) → 0 < n → body n P ≡ lettersFrom 0 n P
+pub spelled-out : (n : ℕ) (P : Pauli) → 0 < n → body n P ≡ lettersFrom 0 n P
 unfolding body
 spelled-out zero P h = absurd (omega arith)
 spelled-out (suc n) P h = refl

@@ -1,4 +1,4 @@
--- Pauli strings as text, bytes being ASCII codes. Assumes nothing.
+-- Pauli strings as text, bytes being ASCII codes.
 use mathlib.Core.Bool.{cond, _||_}
 use mathlib.Core.List.{List, [], _∷_, _++_}
 use mathlib.Core.Option.{Option, none, some}

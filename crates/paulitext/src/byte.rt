@@ -9,12 +9,12 @@ ghost use Prim.Native.Nat.{_+_, _<_, _≤_, max};
 ghost use lib.ListN.{length, getD, drop};
 ghost use Rattle.answers.specs.Answer.{Answer};
 ghost use Rattle.paulilaws.specs.Pauli.{fits};
-ghost use Rattle.paulis.specs.Strings.{pauliOf, letterTold, letterMeant};
+ghost use Rattle.paulis.specs.Strings.{pauliOf, letterAnswerOf, pauliLetterOf};
 ghost use Rattle.paulitext.specs.Text.{letterOfByte, onLetter, prefix, byteOf, body};
 
 // The letter that a byte stands for, refused by 2 where it stands for none.
 pub(crate) fn letter(byte: u8) -> LetterAnswer
-    ensures { λ r. ⌜ letterTold r ≡ onLetter (letterOfByte byte) (Answer.refused 2) Answer.accepted ⌝ }
+    ensures { λ r. ⌜ letterAnswerOf r ≡ onLetter (letterOfByte byte) (Answer.refused 2) Answer.accepted ⌝ }
 {
     match byte {
         b'I' | b'i' | b'_' => LetterAnswer::Letter(Pauli::I),
@@ -27,7 +27,7 @@ pub(crate) fn letter(byte: u8) -> LetterAnswer
 
 // The letter's byte, upper case.
 fn of_letter(letter: Pauli) -> u8
-    ensures { λ r. ⌜ r ≡ byteOf (letterMeant letter) ⌝ }
+    ensures { λ r. ⌜ r ≡ byteOf (pauliLetterOf letter) ⌝ }
 {
     match letter {
         Pauli::I => b'I',
@@ -99,7 +99,8 @@ pub(crate) fn write(pauli: PauliString, coefficient: u8, len: usize, out: &mut [
     requires { ⌜ fits (pauliOf pauli) ≡ true ⌝ }
     requires { ⌜ len ≡ length (prefix coefficient) + max (pauli .nqubits) 1 ⌝ }
     requires { ⌜ len ≤ length (now out) ⌝ }
-    ensures { λ _. ⌜ now (out .exit) ≡ (prefix coefficient ++ body (pauli .nqubits) (pauliOf pauli)) ++ drop len (now (out .entry)) ⌝ }
+    ensures { λ _. let text = prefix coefficient ++ body (pauli .nqubits) (pauliOf pauli) in
+        ⌜ now (out .exit) ≡ text ++ drop len (now (out .entry)) ⌝ }
 {
     let mut i = 0;
     while i < len {

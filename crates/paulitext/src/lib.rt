@@ -32,7 +32,7 @@ pub enum TextAnswer {
 pub fn pauli_string(ops: &[u8]) -> ReadAnswer
     ensures { λ r. ⌜ Read r (readCall (now (ops .entry))) ⌝ }
 {
-    if 256 < ops.len() {
+    if paulis::MOST_QUBITS < ops.len() {
         return answer::refused(1);
     }
     let start = paulis::pauli_identity(ops.len());

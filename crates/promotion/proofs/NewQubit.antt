@@ -1,4 +1,4 @@
--- The two halves of the wider state are the pairs of the new qubit. Assumes nothing.
+-- The two halves of the wider state are the pairs of the new qubit.
 use mathlib.Core.Path.{_≡_, sym, ap, _∙_, subst}
 use Prim.Native.Nat.{ℕ, suc, _+_, _-_, _*_, _^_, _<_}
 use native.Mathlib.Nat.{le-refl, pow-suc}

@@ -2,13 +2,12 @@
 // being the highest. The comment over the Rust has -i q; its code multiplies by +i q, as here.
 mod halves;
 
-use kernels::StepAnswer;
+use rows::StepAnswer;
 ghost use mathlib.Core.Path.{_≡_};
-ghost use Rattle.answers.specs.Row as table;
+ghost use Rattle.amplitudelaws.specs.Calls.{promoting};
+ghost use Rattle.amplitudelaws.specs.Lent.{state};
 ghost use Rattle.amplitudelaws.specs.Rows.{promotionRow};
-ghost use Rattle.amplitudelaws.specs.State.{stateOf};
-ghost use Rattle.amplitudelaws.specs.Steps.{promotion};
-ghost use Rattle.kernels.specs.Kernel.{stepTold, finished};
+ghost use Rattle.rows.specs.Step.{stepAnswerOf};
 
 // From `nqubits` qubits to one more. Refused by 3, by 6 past 60 qubits, by 8, and by 13 where a buffer is
 // too short for the new state.
@@ -19,8 +18,9 @@ pub fn promote_contiguous_active(
     c: f64,
     q: f64,
 ) -> StepAnswer
-    ensures answer { λ r. ⌜ stepTold r ≡ table.answered (promotionRow nqubits c q (stateOf (now (re .entry)) (now (im .entry)))) finished ⌝ }
-    ensures state { λ _. ⌜ stateOf (now (re .exit)) (now (im .exit)) ≡ table.left (promotionRow nqubits c q (stateOf (now (re .entry)) (now (im .entry)))) (promotion nqubits c q (stateOf (now (re .entry)) (now (im .entry)))) (stateOf (now (re .entry)) (now (im .entry))) ⌝ }
+    ensures { λ r. let S = state re im in
+        let did = promoting nqubits c q (S .entry) in
+        ⌜ (stepAnswerOf r ≡ did .answer) × (S .exit ≡ did .lent) ⌝ }
 {
     let row = refusal(re, im, nqubits, c, q);
     if row != 0 {
@@ -32,9 +32,9 @@ pub fn promote_contiguous_active(
 
 // The row that refuses, 0 where none does.
 fn refusal(re: &[f64], im: &[f64], nqubits: usize, c: f64, q: f64) -> u8
-    ensures { λ r. ⌜ r ≡ promotionRow nqubits c q (stateOf (now (re .entry)) (now (im .entry))) ⌝ }
+    ensures { λ r. ⌜ r ≡ promotionRow nqubits c q (state re im .entry) ⌝ }
 {
-    let too_wide = rows::first(rows::row(256 < nqubits, 3), rows::row(60 < nqubits, 6));
+    let too_wide = rows::promoted_width_row(nqubits);
     if too_wide != 0 {
         return too_wide;
     }

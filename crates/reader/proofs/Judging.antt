@@ -1,5 +1,4 @@
 -- What each kind of body is read as, by the rows that the code asks one after the other: the refusal of the first that refuses, or the step.
--- Assumes nothing.
 use mathlib.Core.Path.{_≡_, refl, sym, ap, _∙_}
 use mathlib.Core.Bool.{Bool, true, false, not, _&&_}
 use Prim.Native.Nat.{ℕ, zero, suc, _+_, _-_, _≤_, _<_}

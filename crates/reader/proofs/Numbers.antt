@@ -1,4 +1,4 @@
--- Numbers of bytes. Assumes nothing.
+-- Numbers of bytes.
 use mathlib.Core.Path.{_≡_}
 use mathlib.Core.List.{List}
 use Prim.Native.Nat.{ℕ, _+_, _*_}

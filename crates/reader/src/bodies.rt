@@ -1,22 +1,33 @@
 // The body of each kind of step. The lowest number that refuses is answered: 3 and 6 to 8 of the
 // kernels' rows, 9 to 12 of a projection's, then 14 for a sign or a branch over 1, 15 for a promotion at
-// the limit.
+// the limit. But for a promotion the limit on the width does not matter.
 use crate::FloatAnswer;
 use activepauli::ActivePauli;
 use steps::Cursor;
 use steps::Read;
 use steps::Step;
 ghost use mathlib.Core.Path.{_≡_};
-ghost use Prim.Native.Nat.{_+_, _≤_};
+ghost use mathlib.Core.Option.{some};
+ghost use Prim.Native.Nat.{ℕ, _+_, _≤_};
 ghost use lib.ListN.{length};
 ghost use Rattle.activepauli.specs.Active.{activeOf};
-ghost use Rattle.amplitudelaws.specs.Rows.{widthRow, widestKernel};
-ghost use Rattle.framelaws.specs.Rows.{rotationStepRow, promotionStepRow, projectionStepRow};
-ghost use Rattle.amplitudelaws.specs.Step.{Step as step};
-ghost use Rattle.runlaws.specs.Bytes.{byteAt, floatAt, pauliAt};
-ghost use Rattle.runlaws.specs.Reading.{judgedBy};
-ghost use Rattle.steps.specs.Meant.{cursorOf, readTold};
-ghost use Rattle.reader.specs.Told.{floatTold};
+ghost use Rattle.runlaws.specs.Bytes.{floatAt, pauliAt};
+ghost use Rattle.runlaws.specs.Reading.{rotationBytes, promotionBytes, projectionBytes, correctionBytes};
+ghost use Rattle.runlaws.specs.Reading.{rotationIn, promotionIn, projectionIn, correctionIn, judged};
+ghost use Rattle.steps.specs.Meaning.{cursorOf, readOf};
+ghost use Rattle.reader.specs.Meaning.{floatAnswerOf};
+
+// The bytes of a rotation's body: its Pauli's 17, the sign, c and s.
+pub(crate) const ROTATION_BYTES: usize = 34;
+
+// A promotion's: c and q.
+pub(crate) const PROMOTION_BYTES: usize = 16;
+
+// A projection's: its Pauli's 17, the pivot, the branch and invnorm.
+pub(crate) const PROJECTION_BYTES: usize = 27;
+
+// A correction's: its Pauli's.
+pub(crate) const CORRECTION_BYTES: usize = 17;
 
 // The 17 bytes k, x, z as a Pauli of this width.
 fn pauli(body: &[u8], width: usize) -> ActivePauli
@@ -37,7 +48,7 @@ fn pauli(body: &[u8], width: usize) -> ActivePauli
 // The float from byte i on.
 fn float(body: &[u8], i: usize) -> FloatAnswer
     requires { ⌜ i + 8 ≤ length (now body) ⌝ }
-    ensures { λ r. ⌜ floatTold r ≡ floatAt (now (body .entry)) i ⌝ }
+    ensures { λ r. ⌜ floatAnswerOf r ≡ floatAt (now (body .entry)) i ⌝ }
 {
     let bits = crate::number::eight(body, i);
     let exponent = bits % 9223372036854775808 / 4503599627370496;
@@ -49,11 +60,12 @@ fn float(body: &[u8], i: usize) -> FloatAnswer
 }
 
 pub(crate) fn rotation(body: &[u8], cursor: Cursor, next: usize) -> Read
-    requires { ⌜ length (now body) ≡ 34 ⌝ }
-    ensures { λ r. ⌜ readTold r ≡ judgedBy (rotationStepRow (pauliAt (cursor .width) (now (body .entry))) (byteAt (now (body .entry)) 17) (floatAt (now (body .entry)) 18) (floatAt (now (body .entry)) 26)) (cursorOf cursor) next (step.rotation (pauliAt (cursor .width) (now (body .entry))) (byteAt (now (body .entry)) 17) (floatAt (now (body .entry)) 18) (floatAt (now (body .entry)) 26)) ⌝ }
+    requires { ⌜ length (now body) ≡ rotationBytes ⌝ }
+    ensures { λ r. let t = rotationIn (cursor .width) (now (body .entry)) in
+        ⌜ ((limit : ℕ) → readOf r ≡ judged limit (cursorOf cursor) next (some t)) ⌝ }
 {
     let pauli = pauli(body, cursor.width);
-    let hermitian = rows::hermitian_row(pauli, 61);
+    let hermitian = rows::hermitian_row(pauli, rows::WIDEST_KERNEL);
     if hermitian != 0 {
         return Read::Refused(hermitian, cursor.at);
     }
@@ -76,13 +88,10 @@ pub(crate) fn rotation(body: &[u8], cursor: Cursor, next: usize) -> Read
 }
 
 pub(crate) fn promotion(body: &[u8], cursor: Cursor, next: usize, limit: usize) -> Read
-    requires { ⌜ length (now body) ≡ 16 ⌝ }
-    ensures { λ r. ⌜ readTold r ≡ judgedBy (promotionStepRow limit (cursor .width) (floatAt (now (body .entry)) 0) (floatAt (now (body .entry)) 8)) (cursorOf cursor) next (step.promotion (floatAt (now (body .entry)) 0) (floatAt (now (body .entry)) 8)) ⌝ }
+    requires { ⌜ length (now body) ≡ promotionBytes ⌝ }
+    ensures { λ r. ⌜ readOf r ≡ judged limit (cursorOf cursor) next (some (promotionIn (now (body .entry)))) ⌝ }
 {
-    let too_wide = rows::first(
-        rows::row(256 < cursor.width, 3),
-        rows::row(60 < cursor.width, 6),
-    );
+    let too_wide = rows::promoted_width_row(cursor.width);
     if too_wide != 0 {
         return Read::Refused(too_wide, cursor.at);
     }
@@ -107,11 +116,12 @@ pub(crate) fn promotion(body: &[u8], cursor: Cursor, next: usize, limit: usize) 
 }
 
 pub(crate) fn projection(body: &[u8], cursor: Cursor, next: usize) -> Read
-    requires { ⌜ length (now body) ≡ 27 ⌝ }
-    ensures { λ r. ⌜ readTold r ≡ judgedBy (projectionStepRow (pauliAt (cursor .width) (now (body .entry))) (byteAt (now (body .entry)) 17) (byteAt (now (body .entry)) 18) (floatAt (now (body .entry)) 19)) (cursorOf cursor) next (step.projection (pauliAt (cursor .width) (now (body .entry))) (byteAt (now (body .entry)) 17) (byteAt (now (body .entry)) 18) (floatAt (now (body .entry)) 19)) ⌝ }
+    requires { ⌜ length (now body) ≡ projectionBytes ⌝ }
+    ensures { λ r. let t = projectionIn (cursor .width) (now (body .entry)) in
+        ⌜ ((limit : ℕ) → readOf r ≡ judged limit (cursorOf cursor) next (some t)) ⌝ }
 {
     let pauli = pauli(body, cursor.width);
-    let hermitian = rows::hermitian_row(pauli, 61);
+    let hermitian = rows::hermitian_row(pauli, rows::WIDEST_KERNEL);
     if hermitian != 0 {
         return Read::Refused(hermitian, cursor.at);
     }
@@ -135,11 +145,12 @@ pub(crate) fn projection(body: &[u8], cursor: Cursor, next: usize) -> Read
 }
 
 pub(crate) fn correction(body: &[u8], cursor: Cursor, next: usize) -> Read
-    requires { ⌜ length (now body) ≡ 17 ⌝ }
-    ensures { λ r. ⌜ readTold r ≡ judgedBy (widthRow widestKernel (pauliAt (cursor .width) (now (body .entry)))) (cursorOf cursor) next (step.correction (pauliAt (cursor .width) (now (body .entry)))) ⌝ }
+    requires { ⌜ length (now body) ≡ correctionBytes ⌝ }
+    ensures { λ r. let t = correctionIn (cursor .width) (now (body .entry)) in
+        ⌜ ((limit : ℕ) → readOf r ≡ judged limit (cursorOf cursor) next (some t)) ⌝ }
 {
     let pauli = pauli(body, cursor.width);
-    let row = rows::width_row(pauli, 61);
+    let row = rows::width_row(pauli, rows::WIDEST_KERNEL);
     if row != 0 {
         return Read::Refused(row, cursor.at);
     }

@@ -8,8 +8,9 @@ use steps::Cursor;
 use steps::Read;
 ghost use mathlib.Core.Path.{_≡_};
 ghost use mathlib.Core.Option.{some};
+ghost use Rattle.runlaws.specs.Field.{Field};
 ghost use Rattle.runlaws.specs.Reading.{readField, readAt};
-ghost use Rattle.steps.specs.Meant.{cursorOf, readTold};
+ghost use Rattle.steps.specs.Meaning.{cursorOf, readOf};
 
 // Eight bytes as a float: a NaN pattern does not become one.
 pub(crate) enum FloatAnswer {
@@ -20,9 +21,9 @@ pub(crate) enum FloatAnswer {
 // The field at the cursor: a step that no row refuses, the end field, or the refusal. A cursor over the limit is where no
 // run leads: 14 there.
 pub fn read(run: &[u8], cursor: Cursor, limit: usize) -> Read
-    ensures { λ r. ⌜ readTold r ≡ readAt limit (now (run .entry)) (cursorOf cursor) ⌝ }
+    ensures { λ r. ⌜ readOf r ≡ readAt limit (now (run .entry)) (cursorOf cursor) ⌝ }
 {
-    if 65536 < run.len() {
+    if fields::MOST_BYTES < run.len() {
         return Read::Refused(14, 0);
     }
     if limit < cursor.width {
@@ -37,25 +38,26 @@ pub fn read(run: &[u8], cursor: Cursor, limit: usize) -> Read
 
 // By tag and length; a field that has them from no row of the scope's table is 14 whatever its body.
 fn read_field(tag: u8, held: &[u8], cursor: Cursor, next: usize, limit: usize) -> Read
-    ensures { λ r. ⌜ readTold r ≡ readField limit (cursorOf cursor) (some (record { tag = tag; body = now (held .entry); next = next })) ⌝ }
+    ensures { λ r. let field : Field = record { tag = tag; body = now (held .entry); next = next } in
+        ⌜ readOf r ≡ readField limit (cursorOf cursor) (some field) ⌝ }
 {
     let size = held.len();
-    if (tag == 6) & (size == 0) {
+    if (tag == steps::tag::END) & (size == 0) {
         return Read::End(Cursor {
             at: next,
             width: cursor.width,
         });
     }
-    if (tag == 2) & (size == 34) {
+    if (tag == steps::tag::ROTATION) & (size == bodies::ROTATION_BYTES) {
         return bodies::rotation(held, cursor, next);
     }
-    if (tag == 3) & (size == 16) {
+    if (tag == steps::tag::PROMOTION) & (size == bodies::PROMOTION_BYTES) {
         return bodies::promotion(held, cursor, next, limit);
     }
-    if (tag == 4) & (size == 27) {
+    if (tag == steps::tag::PROJECTION) & (size == bodies::PROJECTION_BYTES) {
         return bodies::projection(held, cursor, next);
     }
-    if (tag == 5) & (size == 17) {
+    if (tag == steps::tag::CORRECTION) & (size == bodies::CORRECTION_BYTES) {
         return bodies::correction(held, cursor, next);
     }
     Read::Refused(14, cursor.at)

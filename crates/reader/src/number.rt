@@ -1,14 +1,9 @@
 // Numbers of eight bytes, little-endian.
+use fields::number::wide;
 ghost use mathlib.Core.Path.{_≡_};
 ghost use Prim.Native.Nat.{_+_, _*_, _≤_, _<_};
 ghost use lib.ListN.{length};
 ghost use Rattle.runlaws.specs.Bytes.{number};
-
-fn wide(byte: u8) -> u64
-    ensures { λ r. ⌜ (r ≡ byte) × (r < 256) ⌝ }
-{
-    byte as u64
-}
 
 // Four bytes from i on.
 fn four(bytes: &[u8], i: usize) -> u64

@@ -1,4 +1,4 @@
--- A rotation by the fields of its kernel, and what the loops need of it. Assumes nothing.
+-- A rotation by the fields of its kernel, and what the loops need of it.
 use mathlib.Core.Path.{_≡_}
 use mathlib.Core.Bool.{false}
 use Prim.Native.Nat.{ℕ, _≤_}
@@ -14,6 +14,6 @@ byKernel K sign S =
     written (K .action .n) (rotatedBy binary (K .diagonal) (K .imaginary) (K .action .x) (K .action .z) sign (K .cosine) (K .m) (point S)) S
 
 -- its width, and a pivot to count the pairs by where there are pairs
-pub record Ready (K : RotationKernel) : Type 0 where
+pub record Rotatable (K : RotationKernel) : Type 0 where
   pub narrow : K .action .n ≤ widestKernel
   pub pivot : K .diagonal ≡ false → Pivoted (K .action .n) (K .pairBit) (K .action .x)

@@ -3,22 +3,22 @@
 use activepauli::ActivePauli;
 use kernels::PrecomputedActivePauliRotationKernel;
 use kernels::RotationKernelAnswer;
-use kernels::StepAnswer;
+use rows::StepAnswer;
 
 mod diagonal;
 mod pairs;
 
 ghost use mathlib.Core.Path.{_≡_};
-ghost use Prim.Native.Nat.{_≤_, _^_};
-ghost use lib.ListN.{length};
-ghost use Rattle.answers.specs.Row.{answered, left};
+ghost use Rattle.answers.specs.Outcome.{byRow, finished};
 ghost use Rattle.bitlaws.specs.Digit.{bitOf};
-ghost use Rattle.amplitudelaws.specs.Rows.{roomRow, rotationRow};
-ghost use Rattle.amplitudelaws.specs.State.{stateOf, room};
-ghost use Rattle.amplitudelaws.specs.Steps.{rotation};
+ghost use Rattle.amplitudelaws.specs.Calls.{rotating};
+ghost use Rattle.amplitudelaws.specs.Lent.{state, Room};
+ghost use Rattle.amplitudelaws.specs.Rows.{roomRow};
+ghost use Rattle.amplitudelaws.specs.State.{room};
 ghost use Rattle.activepauli.specs.Active.{activeOf};
-ghost use Rattle.kernels.specs.Kernel.{rotationMeant, stepTold, finished};
-ghost use Rattle.rotation.specs.Kernel.{Ready, byKernel};
+ghost use Rattle.rows.specs.Step.{stepAnswerOf};
+ghost use Rattle.kernels.specs.Kernel.{rotationKernelOf};
+ghost use Rattle.rotation.specs.Kernel.{Rotatable, byKernel};
 
 // By c and s, or by c and -s where `sign`. Refused by 3, by 6 past 61 qubits, by 7, 8 and 13.
 pub fn rotate_contiguous_active(
@@ -29,8 +29,9 @@ pub fn rotate_contiguous_active(
     c: f64,
     s: f64,
 ) -> StepAnswer
-    ensures answer { λ r. ⌜ stepTold r ≡ answered (rotationRow (activeOf pauli) c s (stateOf (now (re .entry)) (now (im .entry)))) finished ⌝ }
-    ensures state { λ _. ⌜ stateOf (now (re .exit)) (now (im .exit)) ≡ left (rotationRow (activeOf pauli) c s (stateOf (now (re .entry)) (now (im .entry)))) (rotation (activeOf pauli) (bitOf sign) c s (stateOf (now (re .entry)) (now (im .entry)))) (stateOf (now (re .entry)) (now (im .entry))) ⌝ }
+    ensures { λ r. let S = state re im in
+        let did = rotating (activeOf pauli) (bitOf sign) c s (S .entry) in
+        ⌜ (stepAnswerOf r ≡ did .answer) × (S .exit ≡ did .lent) ⌝ }
 {
     match PrecomputedActivePauliRotationKernel::new(pauli, c, s) {
         RotationKernelAnswer::Refused(row) => StepAnswer::Refused(row),
@@ -45,9 +46,11 @@ fn rotate_in_room(
     kernel: PrecomputedActivePauliRotationKernel,
     sign: bool,
 ) -> StepAnswer
-    requires { ⌜ Ready (rotationMeant kernel) ⌝ }
-    ensures answer { λ r. ⌜ stepTold r ≡ answered (roomRow (room (kernel .action .nqubits) (stateOf (now (re .entry)) (now (im .entry))))) finished ⌝ }
-    ensures state { λ _. ⌜ stateOf (now (re .exit)) (now (im .exit)) ≡ left (roomRow (room (kernel .action .nqubits) (stateOf (now (re .entry)) (now (im .entry))))) (byKernel (rotationMeant kernel) (bitOf sign) (stateOf (now (re .entry)) (now (im .entry)))) (stateOf (now (re .entry)) (now (im .entry))) ⌝ }
+    requires { ⌜ Rotatable (rotationKernelOf kernel) ⌝ }
+    ensures { λ r. let S = state re im in
+        let row = roomRow (room (kernel .action .nqubits) (S .entry)) in
+        let did = byRow row finished (byKernel (rotationKernelOf kernel) (bitOf sign) (S .entry)) (S .entry) in
+        ⌜ (stepAnswerOf r ≡ did .answer) × (S .exit ≡ did .lent) ⌝ }
 {
     let nqubits = kernel.action.nqubits;
     let row = rows::room_row(rows::has_room(re, im, nqubits));
@@ -60,8 +63,8 @@ fn rotate_in_room(
 
 // By the loop for the kernel's case.
 fn rotate(re: &mut [f64], im: &mut [f64], kernel: PrecomputedActivePauliRotationKernel, sign: bool)
-    requires { ⌜ Ready (rotationMeant kernel) × (2 ^ kernel .action .nqubits ≤ length (now re)) × (2 ^ kernel .action .nqubits ≤ length (now im)) ⌝ }
-    ensures { λ _. ⌜ stateOf (now (re .exit)) (now (im .exit)) ≡ byKernel (rotationMeant kernel) (bitOf sign) (stateOf (now (re .entry)) (now (im .entry))) ⌝ }
+    requires { ⌜ Rotatable (rotationKernelOf kernel) × Room (kernel .action .nqubits) re im ⌝ }
+    ensures { λ _. ⌜ state re im .exit ≡ byKernel (rotationKernelOf kernel) (bitOf sign) (state re im .entry) ⌝ }
 {
     let n = kernel.action.nqubits;
     let x = kernel.action.xmask;

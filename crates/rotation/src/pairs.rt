@@ -3,17 +3,17 @@
 use bits::Opened;
 use complex::Complex64;
 ghost use mathlib.Core.Path.{_≡_};
-ghost use mathlib.Core.Bool.{true, false};
 ghost use Prim.Native.Nat.{_+_, _%_, _≤_, _<_, _^_};
-ghost use lib.ListN.{length};
 ghost use Rattle.statelaws.specs.Pairs.{Pivoted};
 ghost use Rattle.bitlaws.specs.Digit.{bitOf};
 ghost use Rattle.bitlaws.specs.Opening.{openBit};
 ghost use Rattle.bitlaws.specs.Parity.{overlap};
 ghost use Rattle.amplitudelaws.specs.Arithmetic.{direction, scale, mixed};
 ghost use Rattle.amplitudelaws.specs.Binary.{binary};
-ghost use Rattle.amplitudelaws.specs.Rotation.{rotatedBy, rotatedWith};
-ghost use Rattle.amplitudelaws.specs.State.{stateOf, point, setPoint, written};
+ghost use Rattle.amplitudelaws.specs.Lent.{state, Room, In};
+ghost use Rattle.amplitudelaws.specs.Rotation.{rotatedWith, rotatedUniform, rotatedPairs};
+ghost use Rattle.amplitudelaws.specs.Rows.{widestKernel};
+ghost use Rattle.amplitudelaws.specs.State.{point, setPoint, written};
 ghost use Rattle.complex.specs.Complex.{complexOf};
 
 // The member of pair k that does not have the pair bit.
@@ -39,8 +39,9 @@ pub(crate) fn rotate_uniform_imag_pairs(
     c: f64,
     m: Complex64,
 )
-    requires { ⌜ Pivoted nqubits «pair_bit» xmask × (nqubits ≤ 61) × (2 ^ nqubits ≤ length (now re)) × (2 ^ nqubits ≤ length (now im)) ⌝ }
-    ensures { λ _. ⌜ stateOf (now (re .exit)) (now (im .exit)) ≡ written nqubits (rotatedBy binary false true xmask 0 (bitOf sign) c (complexOf m) (point (stateOf (now (re .entry)) (now (im .entry))))) (stateOf (now (re .entry)) (now (im .entry))) ⌝ }
+    requires { ⌜ Pivoted nqubits «pair_bit» xmask × (nqubits ≤ widestKernel) × Room nqubits re im ⌝ }
+    ensures { λ _. let S = state re im .entry in
+        ⌜ state re im .exit ≡ written nqubits (rotatedUniform binary xmask (bitOf sign) c (complexOf m) (point S)) S ⌝ }
 {
     let t = complex::negated(sign, m);
     let half = 1usize << (nqubits - 1);
@@ -53,8 +54,11 @@ pub(crate) fn rotate_uniform_imag_pairs(
 }
 
 fn rotate_imag_pair(re: &mut [f64], im: &mut [f64], left: usize, right: usize, c: f64, t: Complex64)
-    requires { ⌜ (left < length (now re)) × (left < length (now im)) × (right < length (now re)) × (right < length (now im)) ⌝ }
-    ensures { λ _. ⌜ stateOf (now (re .exit)) (now (im .exit)) ≡ setPoint right (rotatedWith binary c (complexOf t) (point (stateOf (now (re .entry)) (now (im .entry))) right) (point (stateOf (now (re .entry)) (now (im .entry))) left)) (setPoint left (rotatedWith binary c (complexOf t) (point (stateOf (now (re .entry)) (now (im .entry))) left) (point (stateOf (now (re .entry)) (now (im .entry))) right)) (stateOf (now (re .entry)) (now (im .entry)))) ⌝ }
+    requires { ⌜ In left re im × In right re im ⌝ }
+    ensures { λ _. let S = state re im .entry in
+        let a = rotatedWith binary c (complexOf t) (point S left) (point S right) in
+        let b = rotatedWith binary c (complexOf t) (point S right) (point S left) in
+        ⌜ state re im .exit ≡ setPoint right b (setPoint left a S) ⌝ }
 {
     let p = Complex64 {
         re: re[left],
@@ -84,8 +88,9 @@ pub(crate) fn rotate_pairs(
     c: f64,
     m: Complex64,
 )
-    requires { ⌜ Pivoted nqubits «pair_bit» xmask × (nqubits ≤ 61) × (2 ^ nqubits ≤ length (now re)) × (2 ^ nqubits ≤ length (now im)) ⌝ }
-    ensures { λ _. ⌜ stateOf (now (re .exit)) (now (im .exit)) ≡ written nqubits (rotatedBy binary false false xmask zmask (bitOf sign) c (complexOf m) (point (stateOf (now (re .entry)) (now (im .entry))))) (stateOf (now (re .entry)) (now (im .entry))) ⌝ }
+    requires { ⌜ Pivoted nqubits «pair_bit» xmask × (nqubits ≤ widestKernel) × Room nqubits re im ⌝ }
+    ensures { λ _. let S = state re im .entry in
+        ⌜ state re im .exit ≡ written nqubits (rotatedPairs binary xmask zmask (bitOf sign) c (complexOf m) (point S)) S ⌝ }
 {
     let half = 1usize << (nqubits - 1);
     let mut k = 0;
@@ -118,8 +123,11 @@ fn rotate_pair(
     to_left: Complex64,
     to_right: Complex64,
 )
-    requires { ⌜ (left < length (now re)) × (left < length (now im)) × (right < length (now re)) × (right < length (now im)) ⌝ }
-    ensures { λ _. ⌜ stateOf (now (re .exit)) (now (im .exit)) ≡ setPoint right (mixed binary c (complexOf «to_right») (point (stateOf (now (re .entry)) (now (im .entry))) right) (point (stateOf (now (re .entry)) (now (im .entry))) left)) (setPoint left (mixed binary c (complexOf «to_left») (point (stateOf (now (re .entry)) (now (im .entry))) left) (point (stateOf (now (re .entry)) (now (im .entry))) right)) (stateOf (now (re .entry)) (now (im .entry)))) ⌝ }
+    requires { ⌜ In left re im × In right re im ⌝ }
+    ensures { λ _. let S = state re im .entry in
+        let a = mixed binary c (complexOf «to_left») (point S left) (point S right) in
+        let b = mixed binary c (complexOf «to_right») (point S right) (point S left) in
+        ⌜ state re im .exit ≡ setPoint right b (setPoint left a S) ⌝ }
 {
     let p = Complex64 {
         re: re[left],

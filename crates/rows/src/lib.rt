@@ -1,6 +1,6 @@
 // Which row of the scope's table refuses a call on amplitudes or a kernel: the row's number, 0 where
 // none does. Each function here answers for any arguments, so that a call can ask for all its rows and
-// take the first.
+// take the first. And what such a call answers.
 use activepauli::ActiveBitAnswer;
 use activepauli::ActivePauli;
 ghost use mathlib.Core.Path.{_≡_};
@@ -10,8 +10,25 @@ ghost use lib.Ieee.Scale.{finite};
 ghost use Rattle.answers.specs.Row as table;
 ghost use Rattle.activepauli.specs.Active.{activeOf};
 ghost use Rattle.amplitudelaws.specs.Binary.{inUnit};
-ghost use Rattle.amplitudelaws.specs.State.{stateOf, room};
-ghost use Rattle.amplitudelaws.specs.Rows.{widthRow, hermitianRow, unitRow, rotationKernelRow, pivotMask, pivotRow, measurementRow, roomRow};
+ghost use Rattle.amplitudelaws.specs.State.{room};
+ghost use Rattle.amplitudelaws.specs.Lent.{state};
+ghost use Rattle.amplitudelaws.specs.Rows.{widthRow, promotedWidthRow, hermitianRow, unitRow, rotationKernelRow};
+ghost use Rattle.amplitudelaws.specs.Rows.{pivotMask, pivotRow, measurementRow, roomRow};
+
+// The widest Pauli that becomes an action.
+pub const WIDEST_ACTION: usize = 62;
+
+// The widest Pauli that becomes a kernel or a correction.
+pub const WIDEST_KERNEL: usize = 61;
+
+// The widest state that a qubit is promoted from.
+pub const WIDEST_PROMOTION: usize = 60;
+
+// What a call on amplitudes answers: refused by a row, or done, and then what was lent holds its result.
+pub enum StepAnswer {
+    Done,
+    Refused(u8),
+}
 
 // One row.
 pub fn row(refused: bool, number: u8) -> u8
@@ -44,7 +61,7 @@ pub fn is_finite(value: f64) -> bool
 
 // Whether both lists have room for the amplitudes of this many qubits.
 pub fn has_room(re: &[f64], im: &[f64], nqubits: usize) -> bool
-    ensures { λ r. ⌜ r ≡ room nqubits (stateOf (now (re .entry)) (now (im .entry))) ⌝ }
+    ensures { λ r. ⌜ r ≡ room nqubits (state re im .entry) ⌝ }
 {
     is_enough(re.len(), nqubits) & is_enough(im.len(), nqubits)
 }
@@ -75,6 +92,14 @@ pub fn width_row(pauli: ActivePauli, widest: usize) -> u8
     row(widest < pauli.nqubits, 6)
 }
 
+// 3 and 6 of a width that a qubit is promoted from.
+pub fn promoted_width_row(width: usize) -> u8
+    ensures { λ r. ⌜ r ≡ promotedWidthRow width ⌝ }
+{
+    let no_width = row(paulis::MOST_QUBITS < width, 3);
+    first(no_width, row(WIDEST_PROMOTION < width, 6))
+}
+
 // 3, 6 and 7.
 pub fn hermitian_row(pauli: ActivePauli, widest: usize) -> u8
     ensures { λ r. ⌜ r ≡ hermitianRow widest (activeOf pauli) ⌝ }
@@ -96,7 +121,7 @@ pub fn unit_row(c: f64, s: f64) -> u8
 pub fn rotation_row(pauli: ActivePauli, c: f64, s: f64) -> u8
     ensures { λ r. ⌜ r ≡ rotationKernelRow (activeOf pauli) c s ⌝ }
 {
-    let hermitian = hermitian_row(pauli, 61);
+    let hermitian = hermitian_row(pauli, WIDEST_KERNEL);
     let unit = unit_row(c, s);
     first(hermitian, unit)
 }
@@ -130,7 +155,7 @@ pub fn measurement_row(pauli: ActivePauli, pivot: usize, unfit: bool) -> u8
     ensures { λ r. ⌜ r ≡ measurementRow (activeOf pauli) pivot unfit ⌝ }
 {
     first(
-        hermitian_row(pauli, 61),
+        hermitian_row(pauli, WIDEST_KERNEL),
         first(row(unfit, 8), pivot_row(pauli, pivot)),
     )
 }

@@ -6,6 +6,7 @@ use kernel_calls::read;
 use pauli_calls::form;
 use pauli_calls::show;
 use steps::Cursor;
+use steps::Step;
 ghost use Prim.Native.Nat.{_≤_};
 
 pub(crate) fn call(call: u8, run: &[u8], words: [u64; 12], rest: &[u8]) {
@@ -16,6 +17,7 @@ pub(crate) fn call(call: u8, run: &[u8], words: [u64; 12], rest: &[u8]) {
         b'k' => write::check(checker::check_run(run)),
         b's' => cuts(run),
         b'y' => carry(run, read::first_pauli(words), form::index(words[4])),
+        b'g' => past(run, words, rest),
         _ => with_re(call, run, words, rest),
     }
 }
@@ -52,6 +54,38 @@ fn carry_to(run: &[u8], pauli: ActivePauli, out: &mut [u8]) {
         write::output(run, out);
     } else {
         write::output(&run[0..0], out);
+    }
+}
+
+// A Pauli past a step: the run is the step's tag alone, and the two floats are the buffer.
+fn past(tag: &[u8], words: [u64; 12], text: &[u8]) {
+    if tag.len() != 1 {
+        show::unread();
+        return;
+    }
+    let mut floats = [0.0; 2];
+    read::floats(text, &mut floats);
+    let step = made(tag[0], second_pauli(words), words, floats[0], floats[1]);
+    write::past(passing::past(read::first_pauli(words), step));
+}
+
+fn second_pauli(words: [u64; 12]) -> ActivePauli {
+    ActivePauli {
+        nqubits: form::index(words[4]),
+        x: words[6],
+        z: words[7],
+        phase: form::phase(words[5]),
+    }
+}
+
+// The step of a tag, of which word 8 is the sign or the branch and word 9 the pivot.
+fn made(tag: u8, pauli: ActivePauli, words: [u64; 12], first: f64, second: f64) -> Step {
+    let flag = words[8] == 1;
+    match tag {
+        2 => Step::Rotation(pauli, flag, first, second),
+        3 => Step::Promotion(first, second),
+        4 => Step::Projection(pauli, form::index(words[9]), flag, first),
+        _ => Step::Correction(pauli),
     }
 }
 

@@ -13,8 +13,8 @@ pub(crate) fn call(name: &[u8]) -> u8 {
     name[last]
 }
 
-// How many numbers a call takes: check and cuts; field and start; run; step; both; carry. 98 where there is no
-// such call.
+// How many numbers a call takes: check and cuts; field and start; run; step; both; carry; passing. 98 where
+// there is no such call.
 pub(crate) fn arity(call: u8) -> usize {
     match call {
         b'k' | b's' => 0,
@@ -23,6 +23,7 @@ pub(crate) fn arity(call: u8) -> usize {
         b'p' => 3,
         b'h' => 4,
         b'y' => 5,
+        b'g' => 10,
         _ => 98,
     }
 }

@@ -4,8 +4,10 @@ use carrier::CarryAnswer;
 use checker::CheckAnswer;
 use fields::FieldAnswer;
 use fields::StartAnswer;
+use fields::number;
 use kernel_calls::write;
 use libc::STDOUT_FILENO;
+use passing::PassAnswer;
 use pauli_calls::show;
 use runner::RunAnswer;
 use steps::Cursor;
@@ -27,14 +29,10 @@ fn hex(bytes: &[u8]) {
     word(b" [");
     let mut i = 0;
     while i < bytes.len() {
-        io::print_hex(STDOUT_FILENO, wide(bytes[i]), 2);
+        io::print_hex(STDOUT_FILENO, number::wide(bytes[i]), 2);
         i += 1;
     }
     word(b"]");
-}
-
-fn wide(byte: u8) -> u64 {
-    byte as u64
 }
 
 // The tag, where the next field begins, and the body.
@@ -153,6 +151,17 @@ pub(crate) fn ran(answer: RunAnswer) {
 pub(crate) fn state(re: &[f64], im: &[f64]) {
     write::floats(re);
     write::floats(im);
+}
+
+// The step that is left behind, and the Pauli then.
+pub(crate) fn past(answer: PassAnswer) {
+    match answer {
+        PassAnswer::Past(left, behind) => {
+            step(left);
+            write::pauli(behind);
+        }
+        PassAnswer::Refused(row) => show::refused(row),
+    }
 }
 
 fn end(pauli: ActivePauli) {

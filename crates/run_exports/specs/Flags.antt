@@ -1,5 +1,4 @@
 -- A sign or a branch that another language hands over is looked at as one that stands in a run: by the same row, behind the others.
--- Assumes nothing.
 use mathlib.Core.Path.{_≡_, refl}
 use mathlib.Core.Bool.{not}
 use Prim.Native.Nat.{ℕ}

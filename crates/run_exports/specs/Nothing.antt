@@ -1,4 +1,4 @@
--- The survey and the ending that stand beside a refusal: every number of theirs is 0. Assumes nothing.
+-- The survey and the ending that stand beside a refusal: every number of theirs is 0.
 use Rattle.framelaws.specs.Survey.{Survey}
 use Rattle.runlaws.specs.Calls.{Ending}
 

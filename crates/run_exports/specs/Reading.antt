@@ -1,4 +1,4 @@
--- What is seen of a read: the verdict, the field that was read, and the cursor behind it. Assumes nothing.
+-- What is seen of a read: the verdict, the field that was read, and the cursor behind it.
 use mathlib.Core.Path.{_≡_, refl}
 use mathlib.Core.Bool.{cond}
 use Prim.Native.Nat.{ℕ}
@@ -49,12 +49,12 @@ readSeen (refusedRead n at) =
 
 -- ---- the declared types
 
-abbrev pub fieldMeant : SeenField → FieldSeen
-fieldMeant f =
+abbrev pub seenFieldOf : SeenField → FieldSeen
+seenFieldOf f =
     record { tag = f .tag; pauli = activeOf (f .pauli); flag = bitOf (f .flag); pivot = f .pivot; first = f .first; second = f .second }
 
-abbrev pub readMeant : SeenRead → ReadSeen
-readMeant r = record { verdict = r .verdict; field = fieldMeant (r .field); behind = record { at = r .at; width = r .width } }
+abbrev pub seenReadOf : SeenRead → ReadSeen
+seenReadOf r = record { verdict = r .verdict; field = seenFieldOf (r .field); behind = record { at = r .at; width = r .width } }
 
 -- ---- what is seen tells the read
 

@@ -4,9 +4,12 @@
 //
 // The floating-point mode is the process's, and no proof sees it. A program that is linked with -ffast-math, or that
 // sets flush-to-zero itself, has subnormal numbers made zeros here too; another rounding mode changes last bits.
+pub mod given;
 pub mod seen;
 
 use activepauli::ActivePauli;
+use given::GivenStep;
+use given::SeenPast;
 use kernel_exports::seen::SeenActivePauli;
 use ledger::Ledger;
 use seen::SeenEnding;
@@ -17,24 +20,26 @@ use steps::Cursor;
 use verdicts::SeenNumber;
 ghost use mathlib.Core.Path.{_≡_};
 ghost use Rattle.paulilaws.specs.Pauli.{identity};
-ghost use Rattle.framelaws.specs.Memory.{memoryOf};
+ghost use Rattle.amplitudelaws.specs.Lent.{memory};
 ghost use Rattle.runlaws.specs.Reading.{readAt};
 ghost use Rattle.runlaws.specs.Run.{widestRun};
 ghost use Rattle.runlaws.specs.Calls.{checking, running, carrying};
 ghost use Rattle.runlaws.specs.Ledger as history;
 ghost use Rattle.activepauli.specs.Active.{activeOf};
-ghost use Rattle.checker.specs.Told.{surveyMeant};
-ghost use Rattle.ledger.specs.Told.{ledgerOf};
+ghost use Rattle.checker.specs.Meaning.{surveyFieldsOf};
+ghost use Rattle.ledger.specs.Meaning.{ledgerOf};
 ghost use Rattle.lines.specs.Calls.{lineCall, lineLeft};
 ghost use Rattle.listing.specs.Listing.{listed};
 ghost use Rattle.verdicts.specs.Verdict.{Seen};
 ghost use Rattle.run_exports.specs.Nothing.{noSurvey, noEnding};
-ghost use Rattle.run_exports.specs.Reading.{readSeen, readMeant};
+ghost use Rattle.run_exports.specs.Ending.{seenEndingOf};
+ghost use Rattle.run_exports.specs.Reading.{readSeen, seenReadOf};
+ghost use Rattle.run_exports.specs.Past.{givenCall, pastSeen, givenOf, pastOf};
 
 // The field at a cursor: where its tag stands, and the width of the state there.
 #[no_mangle]
 pub extern "C" fn naribhush_read(run: &[u8], at: usize, width: usize, limit: usize) -> SeenRead
-    ensures { λ r. ⌜ readMeant r ≡ readSeen (readAt limit (now (run .entry)) (record { at = at; width = width })) ⌝ }
+    ensures { λ r. ⌜ seenReadOf r ≡ readSeen (readAt limit (now (run .entry)) (record { at = at; width = width })) ⌝ }
 {
     let cursor = Cursor { at, width };
     seen::read(reader::read(run, cursor, limit))
@@ -42,14 +47,14 @@ pub extern "C" fn naribhush_read(run: &[u8], at: usize, width: usize, limit: usi
 
 #[no_mangle]
 pub extern "C" fn naribhush_check_run(run: &[u8]) -> SeenSurvey
-    ensures { λ r. ⌜ Seen (r .verdict) (surveyMeant (r .survey)) noSurvey (checking widestRun (now (run .entry))) ⌝ }
+    ensures { λ r. ⌜ Seen (r .verdict) (surveyFieldsOf (r .survey)) noSurvey (checking widestRun (now (run .entry))) ⌝ }
 {
     seen::survey(checker::check_run(run))
 }
 
 #[no_mangle]
 pub extern "C" fn naribhush_check_within(run: &[u8], limit: usize) -> SeenSurvey
-    ensures { λ r. ⌜ Seen (r .verdict) (surveyMeant (r .survey)) noSurvey (checking limit (now (run .entry))) ⌝ }
+    ensures { λ r. ⌜ Seen (r .verdict) (surveyFieldsOf (r .survey)) noSurvey (checking limit (now (run .entry))) ⌝ }
 {
     seen::survey(checker::check_within(run, limit))
 }
@@ -62,25 +67,40 @@ pub extern "C" fn naribhush_run(
     scratch_re: &mut [f64],
     scratch_im: &mut [f64],
 ) -> SeenEnding
-    ensures answer { λ r. ⌜ Seen (r .verdict) (record { width = r .width; steps = r .steps }) noEnding (running widestRun (now (run .entry)) (memoryOf (now (re .entry)) (now (im .entry)) (now («scratch_re» .entry)) (now («scratch_im» .entry))) .answer) ⌝ }
-    ensures memory { λ _. ⌜ memoryOf (now (re .exit)) (now (im .exit)) (now («scratch_re» .exit)) (now («scratch_im» .exit)) ≡ running widestRun (now (run .entry)) (memoryOf (now (re .entry)) (now (im .entry)) (now («scratch_re» .entry)) (now («scratch_im» .entry))) .lent ⌝ }
+    ensures { λ r. let m = memory re im «scratch_re» «scratch_im» in
+        let did = running widestRun (now (run .entry)) (m .entry) in
+        ⌜ Seen (r .verdict) (seenEndingOf r) noEnding (did .answer) × (m .exit ≡ did .lent) ⌝ }
 {
     seen::ending(runner::run_contiguous(run, re, im, scratch_re, scratch_im))
 }
 
 #[no_mangle]
 pub extern "C" fn naribhush_carry(run: &[u8], pauli: ActivePauli, out: &mut [u8]) -> SeenActivePauli
-    ensures answer { λ r. ⌜ Seen (r .verdict) (activeOf (r .pauli)) (identity 0) (carrying widestRun (now (run .entry)) (activeOf pauli) (now (out .entry)) .answer) ⌝ }
-    ensures output { λ _. ⌜ now (out .exit) ≡ carrying widestRun (now (run .entry)) (activeOf pauli) (now (out .entry)) .lent ⌝ }
+    ensures { λ r. let did = carrying widestRun (now (run .entry)) (activeOf pauli) (now (out .entry)) in
+        ⌜ Seen (r .verdict) (activeOf (r .pauli)) (identity 0) (did .answer) × (now (out .exit) ≡ did .lent) ⌝ }
 {
     seen::carried(carrier::carry_run(run, pauli, out))
+}
+
+// The Pauli past one step, which may be any: 3, 4 and 10 as carrying looks at them, 14 where no step has the tag or
+// a sign or a branch is over 1.
+#[no_mangle]
+pub extern "C" fn naribhush_past(pauli: ActivePauli, step: GivenStep) -> SeenPast
+    ensures { λ r. ⌜ pastOf r ≡ pastSeen (givenCall (activeOf pauli) (givenOf step)) ⌝ }
+{
+    if !given::is_step(step) {
+        return given::none(14);
+    }
+    let row = given::bit_row(step);
+    given::past(passing::past(pauli, given::step(step)), row)
 }
 
 // The whole text that the program `bench` prints of a run.
 #[no_mangle]
 pub extern "C" fn naribhush_listing(run: &[u8], out: &mut [u8]) -> SeenNumber
-    ensures length { λ r. ⌜ Seen (r .verdict) (r .number) 0 (lineCall (listed (now (run .entry))) (now (out .entry))) ⌝ }
-    ensures text { λ _. ⌜ now (out .exit) ≡ lineLeft (listed (now (run .entry))) (now (out .entry)) ⌝ }
+    ensures { λ r. let text = listed (now (run .entry)) in
+        let old = now (out .entry) in
+        ⌜ Seen (r .verdict) (r .number) 0 (lineCall text old) × (now (out .exit) ≡ lineLeft text old) ⌝ }
 {
     seen::text(listing::list_run(run, out))
 }
@@ -94,9 +114,12 @@ pub extern "C" fn naribhush_serve(
     scratch_re: &mut [f64],
     scratch_im: &mut [f64],
 ) -> SeenServed
-    ensures answer { λ r. ⌜ Seen (r .ending .verdict) (record { width = r .ending .width; steps = r .ending .steps }) noEnding (running widestRun (now (run .entry)) (memoryOf (now (re .entry)) (now (im .entry)) (now («scratch_re» .entry)) (now («scratch_im» .entry))) .answer) ⌝ }
-    ensures ledger { λ r. ⌜ ledgerOf (r .ledger) ≡ history.served widestRun (record { run = now (run .entry); memory = memoryOf (now (re .entry)) (now (im .entry)) (now («scratch_re» .entry)) (now («scratch_im» .entry)) }) (ledgerOf ledger) ⌝ }
-    ensures memory { λ _. ⌜ memoryOf (now (re .exit)) (now (im .exit)) (now («scratch_re» .exit)) (now («scratch_im» .exit)) ≡ running widestRun (now (run .entry)) (memoryOf (now (re .entry)) (now (im .entry)) (now («scratch_re» .entry)) (now («scratch_im» .entry))) .lent ⌝ }
+    ensures { λ r. let m = memory re im «scratch_re» «scratch_im» in
+        let did = running widestRun (now (run .entry)) (m .entry) in
+        ⌜ Seen (r .ending .verdict) (seenEndingOf (r .ending)) noEnding (did .answer) × (m .exit ≡ did .lent) ⌝ }
+    ensures { λ r. let m = memory re im «scratch_re» «scratch_im» in
+        let call : history.Call = record { run = now (run .entry); memory = m .entry } in
+        ⌜ ledgerOf (r .ledger) ≡ history.served widestRun call (ledgerOf ledger) ⌝ }
 {
     let served = ledger.serve(run, re, im, scratch_re, scratch_im);
     let answer = served.answer;

@@ -14,14 +14,15 @@ use verdicts::Verdict;
 ghost use mathlib.Core.Path.{_≡_};
 ghost use Rattle.paulilaws.specs.Pauli.{identity};
 ghost use Rattle.activepauli.specs.Active.{activeOf};
-ghost use Rattle.steps.specs.Meant.{stepOf, readTold};
-ghost use Rattle.checker.specs.Told.{surveyMeant, checkTold};
-ghost use Rattle.runner.specs.Told.{runTold};
-ghost use Rattle.carrier.specs.Told.{carryTold};
-ghost use Rattle.paulitext.specs.Calls.{textTold};
+ghost use Rattle.steps.specs.Meaning.{stepOf, readOf};
+ghost use Rattle.checker.specs.Meaning.{surveyFieldsOf, checkAnswerOf};
+ghost use Rattle.runner.specs.Meaning.{runAnswerOf};
+ghost use Rattle.carrier.specs.Meaning.{carryAnswerOf};
+ghost use Rattle.paulitext.specs.Calls.{textAnswerOf};
 ghost use Rattle.verdicts.specs.Verdict.{Seen};
 ghost use Rattle.run_exports.specs.Nothing.{noSurvey, noEnding};
-ghost use Rattle.run_exports.specs.Reading.{stepSeen, bareSeen, readSeen, fieldMeant, readMeant};
+ghost use Rattle.run_exports.specs.Ending.{seenEndingOf};
+ghost use Rattle.run_exports.specs.Reading.{stepSeen, bareSeen, readSeen, seenFieldOf, seenReadOf};
 
 // Beside a refusal all numbers of the survey are 0.
 #[repr(C)]
@@ -67,7 +68,7 @@ pub struct SeenRead {
 }
 
 pub(crate) fn survey(answer: CheckAnswer) -> SeenSurvey
-    ensures { λ r. ⌜ Seen (r .verdict) (surveyMeant (r .survey)) noSurvey (checkTold answer) ⌝ }
+    ensures { λ r. ⌜ Seen (r .verdict) (surveyFieldsOf (r .survey)) noSurvey (checkAnswerOf answer) ⌝ }
 {
     match answer {
         CheckAnswer::Run(survey) => SeenSurvey {
@@ -98,7 +99,7 @@ fn no_ending(verdict: Verdict) -> SeenEnding
 }
 
 pub(crate) fn ending(answer: RunAnswer) -> SeenEnding
-    ensures { λ r. ⌜ Seen (r .verdict) (record { width = r .width; steps = r .steps }) noEnding (runTold answer) ⌝ }
+    ensures { λ r. ⌜ Seen (r .verdict) (seenEndingOf r) noEnding (runAnswerOf answer) ⌝ }
 {
     match answer {
         RunAnswer::Finished { width, steps } => SeenEnding {
@@ -112,7 +113,7 @@ pub(crate) fn ending(answer: RunAnswer) -> SeenEnding
 }
 
 pub(crate) fn carried(answer: CarryAnswer) -> SeenActivePauli
-    ensures { λ r. ⌜ Seen (r .verdict) (activeOf (r .pauli)) (identity 0) (carryTold answer) ⌝ }
+    ensures { λ r. ⌜ Seen (r .verdict) (activeOf (r .pauli)) (identity 0) (carryAnswerOf answer) ⌝ }
 {
     match answer {
         CarryAnswer::Carried(pauli) => SeenActivePauli {
@@ -127,7 +128,7 @@ pub(crate) fn carried(answer: CarryAnswer) -> SeenActivePauli
 }
 
 pub(crate) fn text(answer: TextAnswer) -> SeenNumber
-    ensures { λ r. ⌜ Seen (r .verdict) (r .number) 0 (textTold answer) ⌝ }
+    ensures { λ r. ⌜ Seen (r .verdict) (r .number) 0 (textAnswerOf answer) ⌝ }
 {
     match answer {
         TextAnswer::Length(length) => verdicts::number(length),
@@ -135,7 +136,7 @@ pub(crate) fn text(answer: TextAnswer) -> SeenNumber
     }
 }
 
-fn identity_on_none() -> ActivePauli
+pub(crate) fn identity_on_none() -> ActivePauli
     ensures { λ r. ⌜ activeOf r ≡ identity 0 ⌝ }
 {
     ActivePauli {
@@ -147,8 +148,8 @@ fn identity_on_none() -> ActivePauli
 }
 
 // A field that has nothing but its tag.
-fn bare(tag: u8) -> SeenField
-    ensures { λ r. ⌜ fieldMeant r ≡ bareSeen tag ⌝ }
+pub(crate) fn bare(tag: u8) -> SeenField
+    ensures { λ r. ⌜ seenFieldOf r ≡ bareSeen tag ⌝ }
 {
     let pauli = identity_on_none();
     SeenField {
@@ -161,12 +162,12 @@ fn bare(tag: u8) -> SeenField
     }
 }
 
-fn step(step: Step) -> SeenField
-    ensures { λ r. ⌜ fieldMeant r ≡ stepSeen (stepOf step) ⌝ }
+pub(crate) fn step(step: Step) -> SeenField
+    ensures { λ r. ⌜ seenFieldOf r ≡ stepSeen (stepOf step) ⌝ }
 {
     match step {
         Step::Rotation(pauli, flag, first, second) => SeenField {
-            tag: 2,
+            tag: steps::tag::ROTATION,
             pauli,
             flag,
             pivot: 0,
@@ -176,7 +177,7 @@ fn step(step: Step) -> SeenField
         Step::Promotion(first, second) => {
             let pauli = identity_on_none();
             SeenField {
-                tag: 3,
+                tag: steps::tag::PROMOTION,
                 pauli,
                 flag: false,
                 pivot: 0,
@@ -185,7 +186,7 @@ fn step(step: Step) -> SeenField
             }
         }
         Step::Projection(pauli, pivot, flag, first) => SeenField {
-            tag: 4,
+            tag: steps::tag::PROJECTION,
             pauli,
             flag,
             pivot,
@@ -193,7 +194,7 @@ fn step(step: Step) -> SeenField
             second: 0.0,
         },
         Step::Correction(pauli) => SeenField {
-            tag: 5,
+            tag: steps::tag::CORRECTION,
             pauli,
             flag: false,
             pivot: 0,
@@ -204,7 +205,7 @@ fn step(step: Step) -> SeenField
 }
 
 pub(crate) fn read(got: Read) -> SeenRead
-    ensures { λ r. ⌜ readMeant r ≡ readSeen (readTold got) ⌝ }
+    ensures { λ r. ⌜ seenReadOf r ≡ readSeen (readOf got) ⌝ }
 {
     match got {
         Read::Step(taken, behind) => SeenRead {
@@ -215,7 +216,7 @@ pub(crate) fn read(got: Read) -> SeenRead
         },
         Read::End(behind) => SeenRead {
             verdict: verdicts::accepted(),
-            field: bare(6),
+            field: bare(steps::tag::END),
             at: behind.at,
             width: behind.width,
         },

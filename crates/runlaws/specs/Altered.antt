@@ -1,4 +1,4 @@
--- A carried run differs from the run in sign and branch bytes only. Assumes nothing.
+-- A carried run differs from the run in sign and branch bytes only.
 use mathlib.Core.Path.{_≡_, refl, _∙_, subst}
 use mathlib.Core.Bool.{Bool, true, false}
 use mathlib.Core.List.{List, [], _∷_}

@@ -1,4 +1,4 @@
--- Numbers, floats and Paulis in a list of bytes, little-endian. Assumes nothing.
+-- Numbers, floats and Paulis in a list of bytes, little-endian.
 use mathlib.Core.List.{List}
 use Prim.Native.Nat.{ℕ, zero, suc, _+_, _*_, _^_}
 use lib.Ieee.{Float, binary64, ofBits}

@@ -1,4 +1,4 @@
--- What the calls on runs answer, and what they leave in the lent buffers, refused or not. Assumes nothing.
+-- What the calls on runs answer, and what they leave in the lent buffers, refused or not.
 use mathlib.Core.Bool.{not, _&&_}
 use mathlib.Core.List.{List, _++_}
 use Prim.Native.Nat.{ℕ}
@@ -6,7 +6,8 @@ use lib.Dec.{ltb, eqb}
 use lib.ListN.{length, drop}
 use Rattle.answers.specs.Answer.{Answer}
 use Rattle.answers.specs.Answer.Answer.{accepted, refused, refusedAt}
-use Rattle.answers.specs.Row.{row, answered, left}
+use Rattle.answers.specs.Row.{row}
+pub use Rattle.answers.specs.Outcome.{Outcome, byRow}
 use Rattle.paulilaws.specs.Pauli.{Pauli, fits}
 use Rattle.amplitudelaws.specs.Rows.{roomRow}
 use Rattle.amplitudelaws.specs.State.{roomFor, room}
@@ -16,20 +17,11 @@ use Rattle.framelaws.specs.Survey.{Survey, survey}
 use Rattle.runlaws.specs.Flags.{flagged}
 use Rattle.runlaws.specs.Run.{Run, mapped, runOf}
 
--- a call's answer, and what it leaves in what it was lent
-pub record Outcome (A B : Type 0) : Type 0 where
-  pub answer : Answer A
-  pub lent : B
-
 -- a run that is refused leaves what was lent as it was
 unfoldable pub onRun : {A B : Type 0} → Answer Run → B → (Run → Outcome A B) → Outcome A B
 onRun (accepted R) old f = f R
 onRun (refused n) old f = record { answer = refused n; lent = old }
 onRun (refusedAt n at) old f = record { answer = refusedAt n at; lent = old }
-
--- by the number of a row: refused by it, or done
-unfoldable pub byRow : {A B : Type 0} → ℕ → A → B → B → Outcome A B
-byRow r a new old = record { answer = answered r a; lent = left r new old }
 
 -- ---- checking
 
@@ -38,6 +30,17 @@ surveyOf R = survey (R .width) (R .steps)
 
 unfoldable pub checking : ℕ → List ℕ → Answer Survey
 checking limit s = mapped surveyOf (runOf limit s)
+
+-- the width that a run starts at, and its survey
+pub record CheckedRun : Type 0 where
+  pub start : ℕ
+  pub survey : Survey
+
+abbrev pub checkedRunOf : Run → CheckedRun
+checkedRunOf R = record { start = R .width; survey = surveyOf R }
+
+unfoldable pub checkingWithStart : ℕ → List ℕ → Answer CheckedRun
+checkingWithStart limit s = mapped checkedRunOf (runOf limit s)
 
 -- ---- running
 

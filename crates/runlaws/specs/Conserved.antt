@@ -1,4 +1,4 @@
--- The ledger's law: each count is the number of such calls modulo 2^64, and what is offered is finished or refused. Assumes nothing.
+-- The ledger's law: each count is the number of such calls modulo 2^64, and what is offered is finished or refused.
 use mathlib.Core.Path.{_≡_, refl, sym, ap, ap₂, _∙_}
 use mathlib.Core.Bool.{Bool, true, false, not}
 use mathlib.Core.List.{List, [], _∷_}
@@ -40,7 +40,7 @@ module _ (limit : ℕ) (p : Call → Bool) (count : Ledger → ℕ) (raises : (c
 
 -- ---- how many calls
 
-tally-every : (cs : List Call) → tally (λ c. true) cs ≡ length cs
+pub tally-every : (cs : List Call) → tally (λ c. true) cs ≡ length cs
 unfolding tally
 tally-every [] = refl
 tally-every (c ∷ cs) = omega (arith, tally-every cs)
@@ -49,7 +49,7 @@ both : (t : Bool) (a b : ℕ) → (bitOf t + a) + (bitOf (not t) + b) ≡ suc (a
 both true a b = omega arith
 both false a b = omega arith
 
-tally-both : (p : Call → Bool) (cs : List Call) → length cs ≡ tally p cs + tally (λ c. not (p c)) cs
+pub tally-both : (p : Call → Bool) (cs : List Call) → length cs ≡ tally p cs + tally (λ c. not (p c)) cs
 unfolding tally
 tally-both p [] = refl
 tally-both p (c ∷ cs) = ap suc (tally-both p cs) ∙ sym (both (p c) (tally p cs) (tally (λ c. not (p c)) cs))

@@ -1,5 +1,5 @@
 -- What an accepted run has computed: at binary64 the formulas on amplitudes, step by step; and without rounding these formulas are the product of the operators
--- of Nielsen and Chuang. Assumes nothing.
+-- of Nielsen and Chuang.
 use mathlib.Core.Path.{_≡_, ap, _∙_}
 use mathlib.Core.List.{List}
 use Prim.Native.Nat.{ℕ, _^_, _<_}

@@ -1,4 +1,4 @@
--- A field of a run: one byte of tag, two of the body's length, the body. Assumes nothing.
+-- A field of a run: one byte of tag, two of the body's length, the body.
 use mathlib.Core.Bool.{Bool, cond}
 use mathlib.Core.List.{List}
 use mathlib.Core.Option.{Option, none, some}

@@ -1,4 +1,4 @@
--- What the field read at a cursor says about the run. Assumes nothing.
+-- What the field read at a cursor says about the run.
 use mathlib.Core.Path.{_≡_, refl, ap, subst}
 use mathlib.Core.Bool.{Bool, true, false, cond}
 use mathlib.Core.List.{List}
@@ -69,7 +69,7 @@ module _ (n : ℕ) (f : Field) where
   DecodesOr none = Unit
   DecodesOr (some t) = Decodes n f t
 
-  has-tag : (tag size : ℕ) → isField tag size f ≡ true → f .tag ≡ tag
+  pub has-tag : (tag size : ℕ) → isField tag size f ≡ true → f .tag ≡ tag
   has-tag tag size h = eqb-true (f .tag) tag (both-left (eqb (f .tag) tag) (eqb (length (f .body)) size) h)
 
   pub has-size : (tag size : ℕ) → isField tag size f ≡ true → length (f .body) ≡ size
@@ -92,7 +92,7 @@ read-decodes limit c f (promotes tag size) h = rw (tag, size, h)
 read-decodes limit c f (projects tag size) h = rw (tag, size, h)
 read-decodes limit c f (corrects tag size) h = rw (tag, size, h)
 
-decodes-size : {n : ℕ} {f : Field} {t : Step Float} → Decodes n f t → fieldSize t ≡ 3 + length (f .body)
+pub decodes-size : {n : ℕ} {f : Field} {t : Step Float} → Decodes n f t → fieldSize t ≡ 3 + length (f .body)
 unfolding fieldSize
 decodes-size (rotates tag size) = rw size
 decodes-size (promotes tag size) = rw size
@@ -123,6 +123,16 @@ pub record StepField (limit : ℕ) (s : List ℕ) (c d : Cursor) (t : Step Float
   pub row : stepRow limit (c .width) t ≡ 0
   pub behind : d ≡ record { at = field .next; width = widthAfter (c .width) t }
 
+-- the end field, read at the cursor
+pub record EndField (limit : ℕ) (s : List ℕ) (c d : Cursor) : Type 0 where
+  pub short : length s ≤ mostBytes
+  pub within : c .width ≤ limit
+  pub field : Field
+  pub here : fieldAt s (c .at) ≡ some field
+  pub tag : field .tag ≡ 6
+  pub bare : length (field .body) ≡ 0
+  pub behind : d ≡ record { at = field .next; width = c .width }
+
 pub record StepRead (limit : ℕ) (s : List ℕ) (c : Cursor) (t : Step Float) (d : Cursor) : Type 0 where
   pub next : d .at ≡ c .at + fieldSize t
   pub inside : d .at ≤ length s
@@ -132,33 +142,53 @@ pub record StepRead (limit : ℕ) (s : List ℕ) (c : Cursor) (t : Step Float) (
   pub placed : Placed (c .width) t
 
 module _ (limit : ℕ) (s : List ℕ) (c : Cursor) where
-  StepFieldOr : Read → Type 0
-  StepFieldOr (stepRead t d) = StepField limit s c d t
-  StepFieldOr (endRead d) = Unit
-  StepFieldOr (refusedRead n at) = Unit
+  FieldOr : Read → Type 0
+  FieldOr (stepRead t d) = StepField limit s c d t
+  FieldOr (endRead d) = EndField limit s c d
+  FieldOr (refusedRead n at) = Unit
 
   module _ (short : length s ≤ mostBytes) (within : c .width ≤ limit) (f : Field) (here : fieldAt s (c .at) ≡ some f) where
-    row-read : (t : Step Float) → Decodes (c .width) f t → (r : ℕ) → stepRow limit (c .width) t ≡ r → StepFieldOr (judgedBy r c (f .next) t)
-    unfolding StepFieldOr judgedBy unless
+    row-read : (t : Step Float) → Decodes (c .width) f t → (r : ℕ) → stepRow limit (c .width) t ≡ r → FieldOr (judgedBy r c (f .next) t)
+    unfolding FieldOr judgedBy unless
     row-read t is zero e = record { short = short; within = within; field = f; here = here; is = is; row = e; behind = refl }
     row-read t is (suc r) e = tt
 
-    judged-read : (o : Option (Step Float)) → decoded (c .width) f ≡ o → StepFieldOr (judged limit c (f .next) o)
-    unfolding StepFieldOr judged
+    judged-read : (o : Option (Step Float)) → decoded (c .width) f ≡ o → FieldOr (judged limit c (f .next) o)
+    unfolding FieldOr judged
     judged-read none e = tt
     judged-read (some t) e = row-read t (decodes (c .width) f t e) (stepRow limit (c .width) t) refl
 
-  field-read : length s ≤ mostBytes → c .width ≤ limit → (o : Option Field) → fieldAt s (c .at) ≡ o → StepFieldOr (readField limit c o)
-  unfolding StepFieldOr readField
+    end-read : isField 6 0 f ≡ true → EndField limit s c (record { at = f .next; width = c .width })
+    end-read h = record {
+      short = short;
+      within = within;
+      field = f;
+      here = here;
+      tag = has-tag (c .width) f 6 0 h;
+      bare = has-size (c .width) f 6 0 h;
+      behind = refl;
+    }
+
+  field-read : length s ≤ mostBytes → c .width ≤ limit → (o : Option Field) → fieldAt s (c .at) ≡ o → FieldOr (readField limit c o)
+  unfolding FieldOr readField
   field-read short within none e = tt
-  field-read short within (some f) e = by-test StepFieldOr (isField 6 0 f) (λ h. tt) (λ h. judged-read short within f e (decoded (c .width) f) refl)
+  field-read short within (some f) e =
+      by-test FieldOr (isField 6 0 f) (end-read short within f e) (λ h. judged-read short within f e (decoded (c .width) f) refl)
+
+  read-field : FieldOr (readAt limit s c)
+  unfolding FieldOr readAt
+  read-field =
+      by-test FieldOr (ltb mostBytes (length s)) (λ h. tt)
+      (λ h. by-test FieldOr (ltb limit (c .width)) (λ k. tt)
+      (λ k. field-read (ltb-false mostBytes (length s) h) (ltb-false limit (c .width) k) (fieldAt s (c .at)) refl))
 
   pub step-field : (d : Cursor) (t : Step Float) → readAt limit s c ≡ stepRead t d → StepField limit s c d t
-  unfolding StepFieldOr readAt
-  step-field d t e = subst StepFieldOr e
-      (by-test StepFieldOr (ltb mostBytes (length s)) (λ h. tt)
-      (λ h. by-test StepFieldOr (ltb limit (c .width)) (λ k. tt)
-      (λ k. field-read (ltb-false mostBytes (length s) h) (ltb-false limit (c .width) k) (fieldAt s (c .at)) refl)))
+  unfolding FieldOr
+  step-field d t e = subst FieldOr e read-field
+
+  pub end-field : (d : Cursor) → readAt limit s c ≡ endRead d → EndField limit s c d
+  unfolding FieldOr
+  end-field d e = subst FieldOr e read-field
 
   pub step-read : (d : Cursor) (t : Step Float) → readAt limit s c ≡ stepRead t d → StepRead limit s c t d
   step-read d t e =

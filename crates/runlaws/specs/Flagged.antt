@@ -1,4 +1,4 @@
--- Signs and branches written into a run: what they leave, and that they may be written into a copy in a longer list. Assumes nothing.
+-- Signs and branches written into a run: what they leave, and that they may be written into a copy in a longer list.
 use mathlib.Core.Path.{_≡_, refl, ap, _∙_}
 use mathlib.Core.List.{List, [], _∷_, _++_}
 use Prim.Native.Nat.{ℕ, _+_, _-_, _≤_, _<_}

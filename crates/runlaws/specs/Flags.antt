@@ -1,4 +1,4 @@
--- The sign and branch bytes of a run's fields. Assumes nothing.
+-- The sign and branch bytes of a run's fields.
 use mathlib.Core.Path.{_≡_}
 use mathlib.Core.List.{List, [], _∷_}
 use mathlib.Core.Logic.{_⊎_}

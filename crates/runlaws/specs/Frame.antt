@@ -1,5 +1,5 @@
 -- THE FRAME THEOREM, as it is stated: demand 3, in the scope's own sentences (its paragraph on carrying), over the definitions that the calls run_contiguous,
--- carry_run and correct_contiguous_active promise. Theorem.antt proves it. Assumes nothing.
+-- carry_run and correct_contiguous_active promise. Theorem.antt proves it.
 use mathlib.Core.Path.{_≡_}
 use mathlib.Core.Bool.{true, false}
 use mathlib.Core.List.{List}

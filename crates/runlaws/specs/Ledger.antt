@@ -1,4 +1,4 @@
--- The service's ledger: runs offered, finished and refused, each count going round to 0 after 2^64 - 1. Assumes nothing.
+-- The service's ledger: runs offered, finished and refused, each count going round to 0 after 2^64 - 1.
 use mathlib.Core.Bool.{Bool, true, not}
 use mathlib.Core.List.{List, [], _∷_}
 use Prim.Native.Nat.{ℕ, _+_, _%_, _^_}

@@ -1,4 +1,5 @@
 pub mod Bytes
+pub mod NumberBytes
 pub mod Field
 pub mod Reading
 pub mod Run
@@ -9,7 +10,12 @@ pub mod Conserved
 pub mod Fields
 pub mod Mapped
 pub mod Walk
+pub mod Anywhere
+pub mod Pieces
+pub mod PauliBytes
 pub mod WholeRun
+pub mod RunPieces
+pub mod Going
 pub mod Outcomes
 pub mod OwnBytes
 pub mod Flagged

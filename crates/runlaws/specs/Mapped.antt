@@ -1,4 +1,4 @@
--- An answer whose value is changed: what it says of the answer that it was. Assumes nothing.
+-- An answer whose value is changed: what it says of the answer that it was.
 use mathlib.Core.Path.{_≡_, refl, sym}
 use Prim.Native.Nat.{ℕ}
 use native.Mathlib.Omega.{arith}

@@ -1,4 +1,4 @@
--- What is known of a call on a run that is accepted, and of one that is not. Assumes nothing.
+-- What is known of a call on a run that is accepted, and of one that is not.
 use mathlib.Core.Path.{_≡_, refl, sym}
 use mathlib.Core.Bool.{Bool, true, false, not, _&&_}
 use mathlib.Core.List.{List, [], _∷_, _++_}
@@ -36,11 +36,11 @@ pub record Done {A B : Type 0} (read : Answer Run) (o : Outcome A B) (row : Run 
 
 module _ {A B : Type 0} (row : Run → ℕ) (value : Run → A) (new : Run → B) (old : B) where
   -- what a call on a run does
-  abbrev outcome : Answer Run → Outcome A B
+  abbrev pub outcome : Answer Run → Outcome A B
   outcome read = onRun read old (λ R. byRow (row R) (value R) (new R) old)
 
-  done : (read : Answer Run) (a : A) → outcome read .answer ≡ accepted a → Done read (outcome read) row value new a
-  unfolding onRun byRow
+  pub done : (read : Answer Run) (a : A) → outcome read .answer ≡ accepted a → Done read (outcome read) row value new a
+  unfolding onRun
   done (accepted R) a e =
       let known = accepted-row (row R) (value R) a (sym e) in
       record { run = R; was = refl; passed = known .0; value-is = known .1; lent-is = left-none (row R) (new R) old (known .0) }
@@ -48,11 +48,11 @@ module _ {A B : Type 0} (row : Run → ℕ) (value : Run → A) (new : Run → B
   done (refusedAt n at) a e = absurd (refusedAt-accepted e)
 
   answers : (read : Answer Run) (R : Run) → read ≡ accepted R → row R ≡ 0 → (outcome read .answer ≡ accepted (value R)) × (outcome read .lent ≡ new R)
-  unfolding onRun byRow
+  unfolding onRun
   answers read R e z = rw e (answered-none (row R) (value R) z, left-none (row R) (new R) old z)
 
   kept : (read : Answer Run) → isAccepted (outcome read .answer) ≡ false → outcome read .lent ≡ old
-  unfolding onRun byRow isAccepted
+  unfolding onRun isAccepted
   kept (accepted R) e = by-row (row R) e
     where
       by-row : (r : ℕ) → isAccepted (answered r (value R)) ≡ false → left r (new R) old ≡ old

@@ -1,4 +1,4 @@
--- A field is read by its own bytes, and a run from a cursor on by the bytes from there on. Assumes nothing.
+-- A field is read by its own bytes, and a run from a cursor on by the bytes from there on.
 use mathlib.Core.Path.{_≡_, refl, _∙_}
 use mathlib.Core.Bool.{cond}
 use mathlib.Core.List.{List}

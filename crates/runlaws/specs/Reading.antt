@@ -1,4 +1,4 @@
--- What reading the field at a cursor gives. Assumes nothing.
+-- What reading the field at a cursor gives.
 use mathlib.Core.Bool.{Bool, cond, _&&_}
 use mathlib.Core.List.{List}
 use mathlib.Core.Option.{Option, none, some}
@@ -27,13 +27,39 @@ pub data Read : Type 0 where
 abbrev pub isField : ℕ → ℕ → Field → Bool
 isField tag size f = eqb (f .tag) tag && eqb (length (f .body)) size
 
+-- the bytes of each kind of body: a Pauli has 17, a float 8
+abbrev pub rotationBytes : ℕ
+rotationBytes = 34
+
+abbrev pub promotionBytes : ℕ
+promotionBytes = 16
+
+abbrev pub projectionBytes : ℕ
+projectionBytes = 27
+
+abbrev pub correctionBytes : ℕ
+correctionBytes = 17
+
+-- and its step, at width n
+abbrev pub rotationIn : ℕ → List ℕ → Step Float
+rotationIn n body = rotation (pauliAt n body) (byteAt body 17) (floatAt body 18) (floatAt body 26)
+
+abbrev pub promotionIn : List ℕ → Step Float
+promotionIn body = promotion (floatAt body 0) (floatAt body 8)
+
+abbrev pub projectionIn : ℕ → List ℕ → Step Float
+projectionIn n body = projection (pauliAt n body) (byteAt body 17) (byteAt body 18) (floatAt body 19)
+
+abbrev pub correctionIn : ℕ → List ℕ → Step Float
+correctionIn n body = correction (pauliAt n body)
+
 -- the step of a field at width n, none where no step has its tag and length
 unfoldable pub decoded : ℕ → Field → Option (Step Float)
 decoded n f =
-    cond (isField 2 34 f) (some (rotation (pauliAt n (f .body)) (byteAt (f .body) 17) (floatAt (f .body) 18) (floatAt (f .body) 26)))
-    (cond (isField 3 16 f) (some (promotion (floatAt (f .body) 0) (floatAt (f .body) 8)))
-    (cond (isField 4 27 f) (some (projection (pauliAt n (f .body)) (byteAt (f .body) 17) (byteAt (f .body) 18) (floatAt (f .body) 19)))
-    (cond (isField 5 17 f) (some (correction (pauliAt n (f .body)))) none)))
+    cond (isField 2 rotationBytes f) (some (rotationIn n (f .body)))
+    (cond (isField 3 promotionBytes f) (some (promotionIn (f .body)))
+    (cond (isField 4 projectionBytes f) (some (projectionIn n (f .body)))
+    (cond (isField 5 correctionBytes f) (some (correctionIn n (f .body))) none)))
 
 -- refused by the number of a row at the place, or read where that is 0
 unfoldable pub unless : ℕ → ℕ → Read → Read

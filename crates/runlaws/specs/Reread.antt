@@ -1,4 +1,4 @@
--- A carried run reads as the carried steps: only sign and branch bytes change, and a new sign or branch is one that no row refuses. Assumes nothing.
+-- A carried run reads as the carried steps: only sign and branch bytes change, and a new sign or branch is one that no row refuses.
 use mathlib.Core.Path.{_≡_, sym, ap, _∙_, subst}
 use mathlib.Core.List.{List, [], _∷_}
 use mathlib.Core.Option.{some}
@@ -19,17 +19,17 @@ use Rattle.runlaws.specs.Field.{Field, mostBytes, fieldAt}
 use Rattle.runlaws.specs.Flags.{fieldSize, flagAt, flagged}
 use Rattle.runlaws.specs.Reading.{Cursor, readField, readAt}
 use Rattle.runlaws.specs.Reading.Read.{stepRead}
-use Rattle.runlaws.specs.Run.{Run, mapped, follow, walk, startWidth, runOf}
+use Rattle.runlaws.specs.Run.{Run, mapped, walk, startWidth, runOf}
 use Rattle.runlaws.specs.Calls.{carriedRun}
 use Rattle.runlaws.specs.Fields.{Decodes, field-whole, read-decodes, read-within, step-field, step-read}
-use Rattle.runlaws.specs.Walk.{walk-by, first-step}
+use Rattle.runlaws.specs.Walk.{first-step, walk-step}
 use Rattle.runlaws.specs.WholeRun.{start-read, run-begun, run-allowed}
 use Rattle.runlaws.specs.Fields.Decodes.{rotates, promotes, projects, corrects}
 use Rattle.runlaws.specs.OwnBytes.{byte-kept, float-kept, pauli-kept, withByte, field-same, field-set, read-same, walk-same}
 use Rattle.runlaws.specs.Flagged.{flag-length, flag-kept, flags-length, flags-kept, carried-size}
 
 module _ (n : ℕ) (f : Field) (v : ℕ) where
-  resigned : f .tag ≡ 2 → length (f .body) ≡ 34
+  pub resigned : f .tag ≡ 2 → length (f .body) ≡ 34
       → Decodes n (withByte 17 v f) (rotation (pauliAt n (f .body)) v (floatAt (f .body) 18) (floatAt (f .body) 26))
   resigned tag size =
       let is : Decodes n (withByte 17 v f) _ = rotates tag (length-set (f .body) 17 v ∙ size) in
@@ -40,7 +40,7 @@ module _ (n : ℕ) (f : Field) (v : ℕ) where
         float-kept (f .body) 26 17 v (λ m b e. omega arith),
       ) at is
 
-  rebranched : f .tag ≡ 4 → length (f .body) ≡ 27
+  pub rebranched : f .tag ≡ 4 → length (f .body) ≡ 27
       → Decodes n (withByte 18 v f) (projection (pauliAt n (f .body)) (byteAt (f .body) 17) v (floatAt (f .body) 19))
   rebranched tag size =
       let is : Decodes n (withByte 18 v f) _ = projects tag (length-set (f .body) 18 v ∙ size) in
@@ -67,7 +67,7 @@ module _ (limit : ℕ) (s : List ℕ) (c : Cursor) (Q : Pauli) where
   field-carried f here (corrects tag size) e = rw here (read-decodes limit c f (corrects tag size) e)
 
   -- a field with the carried step's flag reads as the carried step
-  step-carried : (d : Cursor) (t : Step Float) → readAt limit s c ≡ stepRead t d
+  pub step-carried : (d : Cursor) (t : Step Float) → readAt limit s c ≡ stepRead t d
       → readAt limit (flagAt (c .at) (carriedStep Q t) s) c ≡ stepRead (carriedStep Q t) d
   step-carried d t e =
       let k = step-field limit s c d t e in
@@ -76,12 +76,6 @@ module _ (limit : ℕ) (s : List ℕ) (c : Cursor) (Q : Pauli) where
       ∙ ap (stepRead (carriedStep Q t)) (sym (k .behind))
 
 -- ---- the whole run
-
--- a step and what the walk behind it gives
-walk-step : (limit fuel : ℕ) (s : List ℕ) (c d : Cursor) (t : Step Float) (ts : List (Step Float)) → length s ≤ mostBytes → length s ≤ c .at + fuel
-    → readAt limit s c ≡ stepRead t d → walk limit (fuel - 1) s d ≡ accepted ts → walk limit fuel s c ≡ accepted (t ∷ ts)
-unfolding follow mapped
-walk-step limit fuel s c d t ts short h e rest = walk-by limit fuel s c short h ∙ rw (e, rest)
 
 -- flags behind a field do not touch it
 read-before : (limit : ℕ) (s : List ℕ) (c d : Cursor) (t : Step Float) (ts : List (Step Float)) → readAt limit s c ≡ stepRead t d

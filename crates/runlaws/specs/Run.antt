@@ -1,4 +1,4 @@
--- A whole run: its start width and its steps, or the first refusal with its place. Assumes nothing.
+-- A whole run: its start width and its steps, or the first refusal with its place.
 use mathlib.Core.Bool.{cond, _&&_}
 use mathlib.Core.List.{List, [], _∷_}
 use mathlib.Core.Option.{Option, none, some}

@@ -1,4 +1,4 @@
--- The frame theorem, proved: Frame.antt states it. Under any limit at which every state can still be corrected, and so at the service's. Assumes nothing.
+-- The frame theorem, proved: Frame.antt states it. Under any limit at which every state can still be corrected, and so at the service's.
 use mathlib.Core.Path.{_≡_, sym, ap, _∙_, subst}
 use mathlib.Core.Bool.{true}
 use mathlib.Core.List.{List, _++_}
@@ -43,17 +43,18 @@ use Rattle.runlaws.specs.WholeRun.{run-allowed}
 
 -- ---- what the rows of the calls let pass
 
-room-row : (v : Survey) (m : Memory) → room (v .greatest) (m .state) ≡ true → roomFor (v .scratch) (m .scratch) ≡ true → memoryRow v m ≡ 0
+pub room-row : (v : Survey) (m : Memory) → room (v .greatest) (m .state) ≡ true → roomFor (v .scratch) (m .scratch) ≡ true
+    → memoryRow v m ≡ 0
 unfolding memoryRow roomRow row
 room-row v m a b = rw (a, b)
 
 -- no row refuses to fire a Pauli that has its room
-may-fire : (P : Pauli) (S : State) → Admitted P → P .n ≤ widestKernel → room (P .n) S ≡ true → correctionRow P S ≡ 0
+pub may-fire : (P : Pauli) (S : State) → Admitted P → P .n ≤ widestKernel → room (P .n) S ≡ true → correctionRow P S ≡ 0
 unfolding correctionRow widthRow roomRow row first
 may-fire P S f h r = rw (admitted-fits P f, le-ltb widestKernel (P .n) h, r)
 
 -- or to carry one through a run of its own width
-may-carry : (Q : Pauli) (width size room : ℕ) → Admitted Q → Q .n ≡ width → size ≤ room → carryingRow Q width size room ≡ 0
+pub may-carry : (Q : Pauli) (width size room : ℕ) → Admitted Q → Q .n ≡ width → size ≤ room → carryingRow Q width size room ≡ 0
 unfolding carryingRow row
 may-carry Q width size room f e h = rw (admitted-fits Q f, eq-eqb (Q .n) width e, le-ltb room size h)
 

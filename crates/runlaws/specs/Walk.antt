@@ -1,4 +1,4 @@
--- How the walk over a run's fields goes, read by read. Assumes nothing.
+-- How the walk over a run's fields goes, read by read.
 use mathlib.Core.Path.{_≡_, refl, sym, ap, _∙_, subst}
 use mathlib.Core.Bool.{Bool, true, false, cond}
 use mathlib.Core.List.{List, [], _∷_}
@@ -31,9 +31,16 @@ walk-by limit zero s c short h = rw (le-ltb mostBytes (length s) short, field-pa
     go false = refl
 walk-by limit (suc fuel) s c short h = let less : suc fuel - 1 ≡ fuel = omega arith in rw less
 
+-- a step and what the walk behind it gives
+pub walk-step : (limit fuel : ℕ) (s : List ℕ) (c d : Cursor) (t : Step Float) (ts : List (Step Float))
+    → length s ≤ mostBytes → length s ≤ c .at + fuel → readAt limit s c ≡ stepRead t d → walk limit (fuel - 1) s d ≡ accepted ts
+    → walk limit fuel s c ≡ accepted (t ∷ ts)
+unfolding follow mapped
+walk-step limit fuel s c d t ts short h e rest = walk-by limit fuel s c short h ∙ rw (e, rest)
+
 -- a run's end field stands last
 module _ (s : List ℕ) (c : Cursor) where
-  ended-accepted : (ts : List (Step Float)) → ended s c ≡ accepted ts → (length s ≤ c .at) × (ts ≡ [])
+  pub ended-accepted : (ts : List (Step Float)) → ended s c ≡ accepted ts → (length s ≤ c .at) × (ts ≡ [])
   unfolding ended
   ended-accepted ts e = go (ltb (c .at) (length s)) refl e
     where
@@ -47,6 +54,12 @@ pub record First (limit fuel : ℕ) (s : List ℕ) (c : Cursor) (t : Step Float)
   pub read : readAt limit s c ≡ stepRead t behind
   pub enough : length s ≤ behind .at + (fuel - 1)
   pub walked : walk limit (fuel - 1) s behind ≡ accepted ts
+
+-- one that has no step
+pub record Last (limit : ℕ) (s : List ℕ) (c : Cursor) : Type 0 where
+  pub behind : Cursor
+  pub read : readAt limit s c ≡ endRead behind
+  pub long : length s ≤ behind .at
 
 module _ (limit fuel : ℕ) (s : List ℕ) (c : Cursor) (short : length s ≤ mostBytes) (enough : length s ≤ c .at + fuel) where
   pub first-step : (t : Step Float) (ts : List (Step Float)) → walk limit fuel s c ≡ accepted (t ∷ ts) → First limit fuel s c t ts
@@ -66,6 +79,17 @@ module _ (limit fuel : ℕ) (s : List ℕ) (c : Cursor) (short : length s ≤ mo
             walked = m .was ∙ ap accepted tail;
           }
       go (endRead d) h e = absurd (let n = ended-accepted s d (t ∷ ts) e .1 in let z : _≡_ {A = ℕ} 0 1 = cc in omega arith)
+      go (refusedRead n at) h e = absurd (refusedAt-accepted e)
+
+  pub last-field : walk limit fuel s c ≡ accepted [] → Last limit s c
+  unfolding follow
+  last-field e = go (readAt limit s c) refl (sym (walk-by limit fuel s c short enough) ∙ e)
+    where
+      go : (r : Read) → readAt limit s c ≡ r → follow s r (walk limit (fuel - 1) s) ≡ accepted [] → Last limit s c
+      go (stepRead t d) h e =
+          let m = mapped-accepted (λ (ts : List (Step Float)). t ∷ ts) (walk limit (fuel - 1) s d) [] e in
+          absurd (let z : _≡_ {A = ℕ} 0 1 = cc (m .is) in omega arith)
+      go (endRead d) h e = record { behind = d; read = h; long = ended-accepted s d [] e .0 }
       go (refusedRead n at) h e = absurd (refusedAt-accepted e)
 
 -- the steps of an accepted walk are allowed

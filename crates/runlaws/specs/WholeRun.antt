@@ -1,5 +1,5 @@
--- What a run that is read whole is known by, and when it is refused at its start. Assumes nothing.
-use mathlib.Core.Path.{_≡_, refl, subst}
+-- What a run that is read whole is known by, and when it is refused at its start.
+use mathlib.Core.Path.{_≡_, refl, sym, ap, _∙_, subst}
 use mathlib.Core.Bool.{Bool, true, false, cond, _&&_}
 use mathlib.Core.List.{List}
 use mathlib.Core.Option.{Option, none, some}
@@ -8,30 +8,36 @@ use native.Mathlib.Omega.{arith}
 use lib.Dec.{leb, ltb}
 use lib.Ieee.{Float}
 use lib.ListN.{length}
+use lib.Seq.{getD-take, getD-drop}
 use borrow.Author.Tests.{ltb-false, leb-true, lt-ltb, le-ltb}
 use Rattle.answers.specs.Answer.Answer.{accepted, refusedAt}
 use Rattle.answers.specs.Row.{refusedAt-accepted}
 use Rattle.paulilaws.specs.Fitting.{both-left, both-right}
 use Rattle.amplitudelaws.specs.Step.{Step}
 use Rattle.framelaws.specs.Allowed.{Allowed}
-use Rattle.runlaws.specs.Bytes.{byteAt}
+use Rattle.runlaws.specs.Bytes.{byteAt, part}
 use Rattle.runlaws.specs.Field.{Field, mostBytes, bodyLength, fieldAt}
 use Rattle.runlaws.specs.Reading.{Cursor, isField}
 use Rattle.runlaws.specs.Run.{Run, mapped, walk, startWidth, begun, runOf}
-use Rattle.runlaws.specs.Fields.{by-test, field-whole, has-size}
+use Rattle.runlaws.specs.Fields.{by-test, field-whole, has-tag, has-size}
 use Rattle.runlaws.specs.Mapped.{mapped-accepted}
 use Rattle.runlaws.specs.Walk.{walk-allowed}
 
 -- a run that has a start field
 pub record StartRead (limit : ℕ) (s : List ℕ) (n : ℕ) : Type 0 where
+  pub tag : byteAt s 0 ≡ 1
   pub size : bodyLength s 0 ≡ 1
   pub begins : 4 ≤ length s
+  pub is : byteAt s 3 ≡ n
   pub within : n ≤ limit
 
 module _ (limit : ℕ) (s : List ℕ) where
   StartOr : Option ℕ → Type 0
   StartOr none = Unit
   StartOr (some n) = StartRead limit s n
+
+  body-first : (k : ℕ) → 0 < k → byteAt (part 3 k s) 0 ≡ byteAt s 3
+  body-first k h = simp (getD-take, getD-drop)
 
   start-field : (o : Option Field) → fieldAt s 0 ≡ o → StartOr (startWidth limit o)
   unfolding StartOr startWidth
@@ -41,10 +47,13 @@ module _ (limit : ℕ) (s : List ℕ) where
       let first : ℕ = byteAt (f .body) 0 in
       by-test StartOr (isField 1 1 f && leb first limit)
       (λ h.
-      let size : length (f .body) ≡ 1 = has-size 0 f 1 1 (both-left (isField 1 1 f) (leb first limit) h) in
+      let start : isField 1 1 f ≡ true = both-left (isField 1 1 f) (leb first limit) h in
+      let size : length (f .body) ≡ 1 = has-size 0 f 1 1 start in
       record {
+        tag = sym (w .tag) ∙ has-tag 0 f 1 1 start;
         size = omega (arith, w .size, size);
         begins = omega (arith, w .inside, w .size, size);
+        is = sym (ap (λ (b : List ℕ). byteAt b 0) (w .body) ∙ body-first (bodyLength s 0) (omega (arith, w .size, size)));
         within = leb-true first limit (both-right (isField 1 1 f) (leb first limit) h);
       })
       (λ h. tt)

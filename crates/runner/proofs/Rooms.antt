@@ -1,4 +1,4 @@
--- Room for a list of steps is room for its first and, behind it, for the rest. Assumes nothing.
+-- Room for a list of steps is room for its first and, behind it, for the rest.
 use mathlib.Core.Path.{_≡_}
 use mathlib.Core.Bool.{true}
 use mathlib.Core.List.{List, _∷_}

@@ -1,5 +1,5 @@
--- The kernel of a step that is ready is refused by no row, and so leaves what the step's definition says. Assumes nothing.
-use mathlib.Core.Path.{_≡_, refl, sym, ap, ap₂, _∙_, subst}
+-- The kernel of a step that is ready is refused by no row, and so leaves what the step's definition says.
+use mathlib.Core.Path.{_≡_, refl, sym, ap, _∙_, subst}
 use mathlib.Core.Bool.{Bool, true, false, cond, not, _&&_, _||_}
 use Prim.Native.Nat.{ℕ, suc, _-_, _^_}
 use lib.Dec.{leb, ltb, eqb}
@@ -7,6 +7,7 @@ use lib.Ieee.{Float}
 use lib.Ieee.Scale.{finite}
 use Rattle.answers.specs.Row.{row, first, left, first-passed, first-none, left-none}
 use Rattle.paulilaws.specs.Pauli.{Pauli}
+use Rattle.amplitudelaws.specs.Calls.{projectedMemory}
 use Rattle.amplitudelaws.specs.Rows.{widestKernel, widthRow, unitRow, rotationKernelRow, measurementRow, roomRow, rotationRow, promotedWidthRow, promotionRow, projectionRow, correctionRow}
 use Rattle.amplitudelaws.specs.State.{State, roomFor, room}
 use Rattle.amplitudelaws.specs.Steps as leaves
@@ -15,7 +16,7 @@ use Rattle.amplitudelaws.specs.Step.Step.{rotation, promotion, projection, corr
 use Rattle.framelaws.specs.Rows.{stepRow, rotationStepRow, promotionStepRow, projectionStepRow}
 use Rattle.framelaws.specs.Survey.{mixedAmplitudes}
 use Rattle.framelaws.specs.Memory.{Memory, stepped}
-use Rattle.runner.specs.Ready.{Ready}
+use Rattle.runner.specs.Ready.{StepReady}
 
 -- the rows of a call, 13 last
 with-room : (rows : ℕ) (enough : Bool) → rows ≡ 0 → enough ≡ true → first rows (roomRow enough) ≡ 0
@@ -32,44 +33,45 @@ both : {p q : Bool} → p ≡ true → q ≡ true → (p && q) ≡ true
 both h k = rw (h, k)
 
 module _ {n : ℕ} {m : Memory} where
-  rotation-row : (P : Pauli) (sign : ℕ) (c s : Float) → Ready n (rotation P sign c s) m → rotationRow P c s (m .state) ≡ 0
+  rotation-row : (P : Pauli) (sign : ℕ) (c s : Float) → StepReady n (rotation P sign c s) m → rotationRow P c s (m .state) ≡ 0
   unfolding rotationRow stepRow rotationStepRow
   rotation-row P sign c s r =
       with-room (rotationKernelRow P c s) (room (P .n) (m .state)) (first-passed (rotationKernelRow P c s) (row (ltb 1 sign) 14 0) (r .row) .0) (rw (r .placed) (r .before))
 
-  promotion-row : (c q : Float) → Ready n (promotion c q) m → promotionRow n c q (m .state) ≡ 0
+  promotion-row : (c q : Float) → StepReady n (promotion c q) m → promotionRow n c q (m .state) ≡ 0
   unfolding promotionRow stepRow promotionStepRow widthAfter
   promotion-row c q r =
       let rows = first-passed (promotedWidthRow n) (first (unitRow c q) (row (leb (r .limit) n) 15 0)) (r .row) in
       let units = first-passed (unitRow c q) (row (leb (r .limit) n) 15 0) (rows .1) .0 in
       first-none (promotedWidthRow n) _ (rows .0) ∙ with-room (unitRow c q) (room (suc n) (m .state)) units (r .behind)
 
-  projection-row : (M : Pauli) (p v : ℕ) (invnorm : Float) → Ready n (projection M p v invnorm) m → projectionRow M p invnorm (m .state) (m .scratch) ≡ 0
+  projection-row : (M : Pauli) (p v : ℕ) (invnorm : Float) → StepReady n (projection M p v invnorm) m
+      → projectionRow M p invnorm (m .state) (m .scratch) ≡ 0
   unfolding projectionRow stepRow projectionStepRow mixedAmplitudes
   projection-row M p v invnorm r =
       let rows = measurementRow M p (not (finite invnorm)) in
       with-room rows _ (first-passed rows (row (ltb 1 v) 14 0) (r .row) .0)
       (rw (r .placed) (both (r .before) (scratch-enough (eqb (M .x) 0) (n - 1) (m .scratch) (r .scratch))))
 
-  correction-row : (P : Pauli) → Ready n (correction P) m → correctionRow P (m .state) ≡ 0
+  correction-row : (P : Pauli) → StepReady n (correction P) m → correctionRow P (m .state) ≡ 0
   unfolding correctionRow stepRow
   correction-row P r = with-room (widthRow widestKernel P) (room (P .n) (m .state)) (r .row) (rw (r .placed) (r .before))
 
--- What a kernel's call leaves is what the step leaves: t is the step, S and T are what the call left in the state and the scratch.
-module _ (n : ℕ) (t : Step Float) (m : Memory) (ready : Ready n t m) where
-  ready-as : {u : Step Float} → t ≡ u → Ready n u m
-  ready-as e = subst (λ (t : Step Float). Ready n t m) e ready
+-- What a kernel's call leaves is what the step leaves: t is the step, o what the call left.
+module _ (n : ℕ) (t : Step Float) (m : Memory) (ready : StepReady n t m) where
+  ready-as : {u : Step Float} → t ≡ u → StepReady n u m
+  ready-as e = subst (λ (t : Step Float). StepReady n t m) e ready
 
   -- u is the step by its kind, r the number of the call's row
-  taken : {u : Step Float} {S S' T T' : State} (r : ℕ) → t ≡ u → r ≡ 0 → S ≡ left r S' (m .state) → T ≡ left r T' (m .scratch)
-      → record { state = S'; scratch = T' } ≡ stepped n u m → record { state = S; scratch = T } ≡ stepped n t m
-  taken r e none h k is =
-      ap₂ (λ (S T : State). record { state = S; scratch = T }) (h ∙ left-none r _ _ none) (k ∙ left-none r _ _ none) ∙ is ∙ ap (λ (t : Step Float). stepped n t m) (sym e)
+  taken : {u : Step Float} {o : Memory} (r : ℕ) → t ≡ u → r ≡ 0 → o ≡ left r (stepped n u m) m → o ≡ stepped n t m
+  taken r e none h = h ∙ left-none r _ _ none ∙ ap (λ (t : Step Float). stepped n t m) (sym e)
 
   -- the scratch left alone
   taken-alone : {u : Step Float} {S S' : State} (r : ℕ) → t ≡ u → r ≡ 0 → S ≡ left r S' (m .state)
       → record { state = S'; scratch = m .scratch } ≡ stepped n u m → record { state = S; scratch = m .scratch } ≡ stepped n t m
-  taken-alone r e none h is = taken r e none h (sym (left-none r (m .scratch) (m .scratch) none)) is
+  taken-alone r e none h is =
+      let done = h ∙ left-none r _ _ none in
+      taken r e none (ap (λ (S : State). record { state = S; scratch = m .scratch }) done ∙ is ∙ sym (left-none r _ _ none))
 
   pub rotation-taken : (P : Pauli) (sign : ℕ) (c s : Float) {S : State} → t ≡ rotation P sign c s
       → S ≡ left (rotationRow P c s (m .state)) (leaves.rotation P sign c s (m .state)) (m .state)
@@ -83,12 +85,10 @@ module _ (n : ℕ) (t : Step Float) (m : Memory) (ready : Ready n t m) where
   unfolding stepped
   promotion-taken c q e h = taken-alone _ e (promotion-row c q (ready-as e)) h refl
 
-  pub projection-taken : (M : Pauli) (p v : ℕ) (invnorm : Float) {S T : State} → t ≡ projection M p v invnorm
-      → S ≡ left (projectionRow M p invnorm (m .state) (m .scratch)) (leaves.projection M p v invnorm (m .state)) (m .state)
-      → T ≡ left (projectionRow M p invnorm (m .state) (m .scratch)) (leaves.scratchAfter M p v invnorm (m .state) (m .scratch)) (m .scratch)
-      → record { state = S; scratch = T } ≡ stepped n t m
+  pub projection-taken : (M : Pauli) (p v : ℕ) (invnorm : Float) {o : Memory} → t ≡ projection M p v invnorm
+      → o ≡ left (projectionRow M p invnorm (m .state) (m .scratch)) (projectedMemory M p v invnorm m) m → o ≡ stepped n t m
   unfolding stepped
-  projection-taken M p v invnorm e h k = taken _ e (projection-row M p v invnorm (ready-as e)) h k refl
+  projection-taken M p v invnorm e h = taken _ e (projection-row M p v invnorm (ready-as e)) h
 
   pub correction-taken : (P : Pauli) {S : State} → t ≡ correction P
       → S ≡ left (correctionRow P (m .state)) (leaves.correction P (m .state)) (m .state)

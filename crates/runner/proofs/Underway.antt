@@ -1,23 +1,19 @@
--- What the loop over a run's steps keeps: the steps that are left do to the memory as it is what the whole run does to the memory as it was. Assumes nothing.
+-- What the loop over a run's steps keeps: the steps that are left do to the memory as it is what the whole run does to the memory as it was.
 use mathlib.Core.Path.{_≡_, sym, ap, ap₂, _∙_, subst}
 use mathlib.Core.List.{List, [], _∷_}
-use mathlib.Core.Option.{some, Option·some-injective}
 use Prim.Native.Nat.{ℕ, _<_, _-_}
 use native.Mathlib.Omega.{arith}
 use lib.Ieee.{Float}
 use lib.ListN.{length}
 use types.Run.{OneOf}
 use denote.Enum.Declared.{tagOf}
-use Rattle.answers.specs.Answer.Answer.{accepted, refusedAt}
-use Rattle.answers.specs.Row.{refusedAt-accepted}
+use Rattle.answers.specs.Answer.Answer.{accepted}
 use Rattle.amplitudelaws.specs.Step.{Step}
 use Rattle.framelaws.specs.Survey.{survey}
 use Rattle.framelaws.specs.Memory.{Memory, stepped, ran}
 use Rattle.framelaws.specs.Kept.{SameSizes, ran-sizes}
-use Rattle.runlaws.specs.Field.{fieldAt}
 use Rattle.runlaws.specs.Reading.{Cursor, readAt}
 use Rattle.runlaws.specs.Reading.Read.{stepRead}
-use Rattle.runlaws.specs.Run.{startWidth, runOf}
 use Rattle.runlaws.specs.Calls.{surveyOf, running}
 use Rattle.runlaws.specs.Outcomes.{running-answers}
 use Rattle.runlaws.specs.Walk.{Left, left-outset, accepted-step}
@@ -26,8 +22,8 @@ use Rattle.runlaws.specs.WholeRun.{run-allowed}
 use Rattle.steps.proofs.Ended.{none-left}
 use Rattle.steps.proofs.Read.{the-type}
 use Rattle.steps.specs.declared.Read as declared
-use Rattle.steps.specs.Meant.{readTold}
-use Rattle.runner.specs.Ready.{Ready, ReadyRun}
+use Rattle.steps.specs.Meaning.{readOf}
+use Rattle.runner.specs.Ready.{StepReady, RunReady}
 use Rattle.runner.proofs.Rooms.{Rooms, rooms-passed, rooms-before, rooms-behind, rooms-scratch, rooms-rest}
 
 -- m is the memory at the cursor c, m₀ the one at the start
@@ -38,25 +34,18 @@ pub record Underway (limit : ℕ) (s : List ℕ) (m₀ : Memory) (c : Cursor) (m
   pub rooms : Rooms (survey (c .width) steps) m
 
 module _ {limit : ℕ} {s : List ℕ} {m₀ : Memory} where
-  module _ (r : ReadyRun limit s m₀) where
+  module _ {width : ℕ} (r : RunReady limit s width m₀) where
     lent-ran : running limit s m₀ .lent ≡ ran (r .run .width) (r .run .steps) m₀
     lent-ran = running-answers limit s m₀ (r .run) (r .is) (r .row) .1
 
     pub lent-sizes : SameSizes (running limit s m₀ .lent) m₀
     lent-sizes = rw lent-ran (ran-sizes (r .run .width) (r .run .steps) m₀)
 
-    starts : startWidth limit (fieldAt s 0) ≡ some (r .run .width)
-    starts = run-allowed limit s (r .run) (r .is) .start
-
-    pub no-start : runOf limit s ≡ refusedAt 14 0 → ⊥
-    no-start e = refusedAt-accepted (sym e ∙ r .is)
-
-    pub underway-outset : (n : ℕ) → startWidth limit (fieldAt s 0) ≡ some n → Underway limit s m₀ (record { at = 4; width = n }) m₀
+    pub underway-outset : Underway limit s m₀ (record { at = 4; width = width }) m₀
     unfolding surveyOf
-    underway-outset n e =
+    underway-outset =
         let read = run-allowed limit s (r .run) (r .is) in
-        let width : n ≡ r .run .width = Option·some-injective _ _ (sym e ∙ starts) in
-        rw width (record {
+        rw (r .start) (record {
           steps = r .run .steps;
           left = rw (← read .walked) (left-outset limit s (record { at = 4; width = r .run .width }) (read .short) (read .begins));
           same = sym lent-ran;
@@ -65,7 +54,7 @@ module _ {limit : ℕ} {s : List ℕ} {m₀ : Memory} where
 
   module _ {c : Cursor} {m : Memory} (u : Underway limit s m₀ c m) where
     module _ (t : Step Float) (d : Cursor) (e : readAt limit s c ≡ stepRead t d) where
-      pub underway-ready : Ready (c .width) t m
+      pub underway-ready : StepReady (c .width) t m
       underway-ready =
           let read = step-read limit s c d t e in
           let next = accepted-step (u .left) t d e in
@@ -103,5 +92,5 @@ module _ {limit : ℕ} {s : List ℕ} {m₀ : Memory} where
     all-taken e = ap (λ (ts : List (Step Float)). ran (c .width) ts m) (sym e) ∙ u .same
 
     -- what is no step is the end: a run that was accepted has no refusal
-    pub underway-end : (r : declared.Read) → readTold r ≡ readAt limit s c → OneOf (1 ∷ 2 ∷ []) (tagOf the-type r) → m ≡ running limit s m₀ .lent
+    pub underway-end : (r : declared.Read) → readOf r ≡ readAt limit s c → OneOf (1 ∷ 2 ∷ []) (tagOf the-type r) → m ≡ running limit s m₀ .lent
     underway-end r e k = all-taken (none-left (u .left) r e k)

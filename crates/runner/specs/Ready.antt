@@ -1,4 +1,4 @@
--- What the runner's steps need: that no row refuses them, and room for the states on the way. Assumes nothing.
+-- What the runner's steps need: that no row refuses them, and room for the states on the way.
 use mathlib.Core.Path.{_≡_}
 use mathlib.Core.Bool.{true}
 use mathlib.Core.List.{List}
@@ -15,7 +15,7 @@ use Rattle.runlaws.specs.Run.{Run, runOf}
 use Rattle.runlaws.specs.Calls.{surveyOf, memoryRow}
 
 -- a step at width n, under some limit
-pub record Ready (n : ℕ) (t : Step Float) (m : Memory) : Type 0 where
+pub record StepReady (n : ℕ) (t : Step Float) (m : Memory) : Type 0 where
   pub limit : ℕ
   pub placed : Placed n t
   pub row : stepRow limit n t ≡ 0
@@ -23,8 +23,9 @@ pub record Ready (n : ℕ) (t : Step Float) (m : Memory) : Type 0 where
   pub behind : room (widthAfter n t) (m .state) ≡ true
   pub scratch : roomFor (mixedAmplitudes n t) (m .scratch) ≡ true
 
--- a whole run, row 13 passed
-pub record ReadyRun (limit : ℕ) (s : List ℕ) (m : Memory) : Type 0 where
+-- a whole run that starts at this width, row 13 passed
+pub record RunReady (limit : ℕ) (s : List ℕ) (width : ℕ) (m : Memory) : Type 0 where
   pub run : Run
   pub is : runOf limit s ≡ accepted run
+  pub start : width ≡ run .width
   pub row : memoryRow (surveyOf run) m ≡ 0

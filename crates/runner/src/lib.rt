@@ -1,8 +1,7 @@
 // Running: the steps of a run on lent amplitudes, one after the other. The run is checked whole first, so
 // that a refused run leaves all four buffers as they were.
-use checker::CheckAnswer;
+use checker::Checked;
 use checker::Survey;
-use fields::StartAnswer;
 use steps::Cursor;
 use steps::Read;
 use steps::Step;
@@ -10,14 +9,15 @@ ghost use mathlib.Core.Path.{_≡_};
 ghost use mathlib.Core.Bool.{_&&_};
 ghost use Rattle.answers.specs.Answer.Answer.{accepted};
 ghost use Rattle.amplitudelaws.specs.Rows.{roomRow};
-ghost use Rattle.amplitudelaws.specs.State.{stateOf, roomFor, room};
-ghost use Rattle.framelaws.specs.Memory.{memoryOf, stepped};
+ghost use Rattle.amplitudelaws.specs.State.{roomFor, room};
+ghost use Rattle.amplitudelaws.specs.Lent.{memory, lentMemory};
+ghost use Rattle.framelaws.specs.Memory.{stepped};
 ghost use Rattle.runlaws.specs.Run.{widestRun};
-ghost use Rattle.runlaws.specs.Calls.{checking, running};
-ghost use Rattle.steps.specs.Meant.{stepOf};
-ghost use Rattle.checker.specs.Told.{surveyMeant};
-ghost use Rattle.runner.specs.Told.{runTold};
-ghost use Rattle.runner.specs.Ready.{Ready, ReadyRun};
+ghost use Rattle.runlaws.specs.Calls.{checkingWithStart, running};
+ghost use Rattle.steps.specs.Meaning.{stepOf};
+ghost use Rattle.checker.specs.Meaning.{surveyFieldsOf};
+ghost use Rattle.runner.specs.Meaning.{runAnswerOf};
+ghost use Rattle.runner.specs.Ready.{StepReady, RunReady};
 
 // The last width and the number of steps done; or the run's own refusal with its place, or 13.
 pub enum RunAnswer {
@@ -33,10 +33,11 @@ pub fn run_contiguous(
     scratch_re: &mut [f64],
     scratch_im: &mut [f64],
 ) -> RunAnswer
-    ensures answer { λ r. ⌜ runTold r ≡ running widestRun (now (run .entry)) (memoryOf (now (re .entry)) (now (im .entry)) (now («scratch_re» .entry)) (now («scratch_im» .entry))) .answer ⌝ }
-    ensures memory { λ _. ⌜ memoryOf (now (re .exit)) (now (im .exit)) (now («scratch_re» .exit)) (now («scratch_im» .exit)) ≡ running widestRun (now (run .entry)) (memoryOf (now (re .entry)) (now (im .entry)) (now («scratch_re» .entry)) (now («scratch_im» .entry))) .lent ⌝ }
+    ensures { λ r. let m = memory re im «scratch_re» «scratch_im» in
+        let did = running widestRun (now (run .entry)) (m .entry) in
+        ⌜ (runAnswerOf r ≡ did .answer) × (m .exit ≡ did .lent) ⌝ }
 {
-    run_within(run, re, im, scratch_re, scratch_im, 12)
+    run_within(run, re, im, scratch_re, scratch_im, checker::WIDEST_RUN)
 }
 
 // Under any limit on the width.
@@ -48,14 +49,22 @@ fn run_within(
     scratch_im: &mut [f64],
     limit: usize,
 ) -> RunAnswer
-    ensures answer { λ r. ⌜ runTold r ≡ running limit (now (run .entry)) (memoryOf (now (re .entry)) (now (im .entry)) (now («scratch_re» .entry)) (now («scratch_im» .entry))) .answer ⌝ }
-    ensures memory { λ _. ⌜ memoryOf (now (re .exit)) (now (im .exit)) (now («scratch_re» .exit)) (now («scratch_im» .exit)) ≡ running limit (now (run .entry)) (memoryOf (now (re .entry)) (now (im .entry)) (now («scratch_re» .entry)) (now («scratch_im» .entry))) .lent ⌝ }
+    ensures { λ r. let m = memory re im «scratch_re» «scratch_im» in
+        let did = running limit (now (run .entry)) (m .entry) in
+        ⌜ (runAnswerOf r ≡ did .answer) × (m .exit ≡ did .lent) ⌝ }
 {
-    match checker::check_within(run, limit) {
-        CheckAnswer::Refused(row, at) => RunAnswer::RefusedAt(row, at),
-        CheckAnswer::Run(survey) => {
-            run_checked(run, re, im, scratch_re, scratch_im, limit, survey)
-        }
+    match checker::check_with_start(run, limit) {
+        Checked::Refused(row, at) => RunAnswer::RefusedAt(row, at),
+        Checked::Run(start, survey) => run_checked(
+            run,
+            re,
+            im,
+            scratch_re,
+            scratch_im,
+            limit,
+            start,
+            survey,
+        ),
     }
 }
 
@@ -67,11 +76,13 @@ fn run_checked(
     scratch_re: &mut [f64],
     scratch_im: &mut [f64],
     limit: usize,
+    start: usize,
     survey: Survey,
 ) -> RunAnswer
-    requires { ⌜ checking limit (now run) ≡ accepted (surveyMeant survey) ⌝ }
-    ensures answer { λ r. ⌜ runTold r ≡ running limit (now (run .entry)) (memoryOf (now (re .entry)) (now (im .entry)) (now («scratch_re» .entry)) (now («scratch_im» .entry))) .answer ⌝ }
-    ensures memory { λ _. ⌜ memoryOf (now (re .exit)) (now (im .exit)) (now («scratch_re» .exit)) (now («scratch_im» .exit)) ≡ running limit (now (run .entry)) (memoryOf (now (re .entry)) (now (im .entry)) (now («scratch_re» .entry)) (now («scratch_im» .entry))) .lent ⌝ }
+    requires { ⌜ checkingWithStart limit (now run) ≡ accepted (record { start = start; survey = surveyFieldsOf survey }) ⌝ }
+    ensures { λ r. let m = memory re im «scratch_re» «scratch_im» in
+        let did = running limit (now (run .entry)) (m .entry) in
+        ⌜ (runAnswerOf r ≡ did .answer) × (m .exit ≡ did .lent) ⌝ }
 {
     let row = memory_row(
         re,
@@ -84,7 +95,7 @@ fn run_checked(
     if row != 0 {
         return RunAnswer::Refused(row);
     }
-    run_steps(run, re, im, scratch_re, scratch_im, limit);
+    run_steps(run, re, im, scratch_re, scratch_im, limit, start);
     RunAnswer::Finished {
         width: survey.width,
         steps: survey.steps,
@@ -100,14 +111,16 @@ fn memory_row(
     greatest: usize,
     scratch: usize,
 ) -> u8
-    ensures { λ r. ⌜ r ≡ roomRow (room greatest (stateOf (now (re .entry)) (now (im .entry))) && roomFor scratch (stateOf (now («scratch_re» .entry)) (now («scratch_im» .entry)))) ⌝ }
+    ensures { λ r. let m = memory re im «scratch_re» «scratch_im» .entry in
+        ⌜ r ≡ roomRow (room greatest (m .state) && roomFor scratch (m .scratch)) ⌝ }
 {
     let states = rows::has_room(re, im, greatest);
     let mixtures = (scratch <= scratch_re.len()) & (scratch <= scratch_im.len());
     rows::room_row(states & mixtures)
 }
 
-// The fields behind the start field, one after the other. The run was checked, so what is no step is its end.
+// The fields behind the start field, one after the other, from the start width on. The run was checked, so
+// what is no step is its end.
 fn run_steps(
     run: &[u8],
     re: &mut [f64],
@@ -115,15 +128,16 @@ fn run_steps(
     scratch_re: &mut [f64],
     scratch_im: &mut [f64],
     limit: usize,
+    width: usize,
 )
-    requires { ⌜ ReadyRun limit (now run) (memoryOf (now re) (now im) (now «scratch_re») (now «scratch_im»)) ⌝ }
-    ensures { λ _. ⌜ memoryOf (now (re .exit)) (now (im .exit)) (now («scratch_re» .exit)) (now («scratch_im» .exit)) ≡ running limit (now (run .entry)) (memoryOf (now (re .entry)) (now (im .entry)) (now («scratch_re» .entry)) (now («scratch_im» .entry))) .lent ⌝ }
+    requires { ⌜ RunReady limit (now run) width (lentMemory re im «scratch_re» «scratch_im») ⌝ }
+    ensures { λ _. let m = memory re im «scratch_re» «scratch_im» in
+        ⌜ m .exit ≡ running limit (now (run .entry)) (m .entry) .lent ⌝ }
 {
-    let StartAnswer::Width(width) = fields::start(run, limit) else {
-        // Never: a run that was checked has its start field.
-        return;
+    let mut cursor = Cursor {
+        at: fields::START_BYTES,
+        width,
     };
-    let mut cursor = Cursor { at: 4, width };
     loop {
         let got = reader::read(run, cursor, limit);
         let Read::Step(step, next) = got else {
@@ -143,8 +157,9 @@ fn take_step(
     scratch_re: &mut [f64],
     scratch_im: &mut [f64],
 )
-    requires { ⌜ Ready width (stepOf step) (memoryOf (now re) (now im) (now «scratch_re») (now «scratch_im»)) ⌝ }
-    ensures { λ _. ⌜ memoryOf (now (re .exit)) (now (im .exit)) (now («scratch_re» .exit)) (now («scratch_im» .exit)) ≡ stepped width (stepOf step) (memoryOf (now (re .entry)) (now (im .entry)) (now («scratch_re» .entry)) (now («scratch_im» .entry))) ⌝ }
+    requires { ⌜ StepReady width (stepOf step) (lentMemory re im «scratch_re» «scratch_im») ⌝ }
+    ensures { λ _. let m = memory re im «scratch_re» «scratch_im» in
+        ⌜ m .exit ≡ stepped width (stepOf step) (m .entry) ⌝ }
 {
     match step {
         Step::Rotation(pauli, sign, c, s) => {

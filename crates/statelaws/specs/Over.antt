@@ -1,4 +1,4 @@
--- The first entries of a list replaced, the rest and the length kept. Assumes nothing.
+-- The first entries of a list replaced, the rest and the length kept.
 use mathlib.Core.Path.{_≡_, refl, sym, ap, _∙_}
 use mathlib.Core.List.{List, [], _∷_}
 use mathlib.Core.Logic.{⊎-elim}

@@ -1,4 +1,4 @@
--- A loop over the pairs b, b xor x of n qubits, where x has the pivot p: turn t writes the pair whose basis without the pivot is t. Assumes nothing.
+-- A loop over the pairs b, b xor x of n qubits, where x has the pivot p: turn t writes the pair whose basis without the pivot is t.
 use mathlib.Core.Path.{_≡_, sym, subst}
 use mathlib.Core.List.{List}
 use Prim.Native.Nat.{ℕ, suc, _+_, _-_, _^_, _<_}

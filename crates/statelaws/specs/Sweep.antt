@@ -1,4 +1,4 @@
--- A loop that rewrites the first n entries of a list in place, each in one turn: one entry a turn, or two. Assumes nothing.
+-- A loop that rewrites the first n entries of a list in place, each in one turn: one entry a turn, or two.
 use mathlib.Core.Path.{_≡_, refl, sym, ap, _∙_, subst}
 use mathlib.Core.Logic.{_⊎_, ⊎-elim}
 use mathlib.Core.List.{List}

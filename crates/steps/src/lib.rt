@@ -1,5 +1,7 @@
 // The steps of a run as they are read: a step carries its Pauli and its floats, a read the step and
 // the cursor behind it, or the refusal with its place. Types, no functions.
+pub mod tag;
+
 use activepauli::ActivePauli;
 
 // Where the next field's tag stands in the run, and the width of the state there.

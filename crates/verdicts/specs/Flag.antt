@@ -1,5 +1,5 @@
 -- A bit comes from another language as a number; over 1 it is none, and refuses the call by 14. That row stands behind the call's own, which
--- have the lower numbers. Assumes nothing.
+-- have the lower numbers.
 use mathlib.Core.Path.{_≡_, refl}
 use Prim.Native.Nat.{ℕ, zero, suc, _≤_}
 use lib.Dec.{ltb, lit<}

@@ -1,4 +1,4 @@
--- An answer as a caller in another language sees it: a verdict, and a value that is a fixed one beside a refusal. Assumes nothing.
+-- An answer as a caller in another language sees it: a verdict, and a value that is a fixed one beside a refusal.
 use mathlib.Core.Path.{_≡_, ap, sym, _∙_, subst}
 use native.Mathlib.Omega.{arith}
 use Rattle.answers.specs.Answer.{Answer, valueOr}

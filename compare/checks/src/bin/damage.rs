@@ -7,7 +7,7 @@ use checks::case::{self, Arguments};
 use checks::lent::Lender;
 use checks::offers::offer;
 use checks::outcomes::Outcomes;
-use checks::{direct_amplitudes, direct_paulis, mutate};
+use checks::{direct_amplitudes, direct_past, direct_paulis, mutate};
 use model::dice::Dice;
 use model::run::LONGEST;
 use std::process::ExitCode;
@@ -16,7 +16,7 @@ const CASES: u64 = 3_000_000;
 const SEED: u64 = 1;
 
 /// The rows that each call has, 0 where none refuses it.
-const WANTED: [(&str, &[u8]); 41] = [
+const WANTED: [(&str, &[u8]); 42] = [
     ("read", &[0, 3, 6, 7, 8, 9, 10, 11, 12, 14, 15]),
     ("check_run", &[0, 3, 7, 8, 9, 10, 11, 12, 14, 15]),
     ("check_within", &[0, 3, 6, 7, 8, 9, 10, 11, 12, 14, 15]),
@@ -26,6 +26,7 @@ const WANTED: [(&str, &[u8]); 41] = [
     ("serve, caller's", &[13]),
     ("carry", &[0, 3, 7, 8, 9, 10, 11, 12, 14, 15]),
     ("carry, caller's", &[3, 4, 16]),
+    ("past", &[0, 3, 4, 10, 14]),
     ("listing", &[0, 16]),
     ("insert_zero_bit", &[0, 5]),
     ("set_packed_bit", &[0, 14]),
@@ -67,6 +68,7 @@ fn try_case(lender: &Lender, seed: u64, seen: &mut Outcomes) {
     offer(lender, &mut dice, &bytes, seen);
     direct_paulis::call_all(lender, &mut dice, seen);
     direct_amplitudes::call_all(lender, &mut dice, seen);
+    direct_past::call(&mut dice, seen);
 }
 
 fn try_long_runs(lender: &Lender, seed: u64, seen: &mut Outcomes) {

@@ -1,4 +1,4 @@
--- A Pauli's action on a vector, entry by entry, and that its matrix acts so. Assumes nothing.
+-- A Pauli's action on a vector, entry by entry, and that its matrix acts so.
 use mathlib.Core.Path.{_≡_, sym, ap, _∙_}
 use mathlib.Core.Bool.{false, cond}
 use Prim.Native.Nat.{ℕ, _^_, _<_}
@@ -15,7 +15,7 @@ use Rattle.amplitudelaws.specs.Book.Complex.{complex, ipow, sgn}
 use Rattle.amplitudelaws.specs.Book.Sum.{sum-one}
 use Rattle.amplitudelaws.specs.Book.Matrix.{multiple, applied}
 use Rattle.amplitudelaws.specs.Book.Operators.{pauli}
-use Rattle.amplitudelaws.specs.Book.Letters.{letters-entry}
+use Rattle.amplitudelaws.specs.Book.Factors.{factors-entry}
 
 module _ {R : Type 0} (𝓡 : Ring R) where
   open Ring (complex 𝓡) using (mul as _*ᶜ_, zero as nought)
@@ -28,7 +28,7 @@ module _ {R : Type 0} (𝓡 : Ring R) where
   pub pauli-entry : (P : Pauli) → Fitting P → (a b : ℕ) → a < 2 ^ P .n → b < 2 ^ P .n
       → pauli 𝓡 P a b ≡ ipow 𝓡 (P .k) *ᶜ cond (eqb a (bitXor b (P .x))) (sgn 𝓡 (overlap b (P .z))) nought
   unfolding pauli multiple
-  pauli-entry P f a b ha hb = ap (_*ᶜ_ (ipow 𝓡 (P .k))) (letters-entry 𝓡 (P .n) (P .x) (P .z) a b (f .xs) (f .zs) ha hb)
+  pauli-entry P f a b ha hb = ap (_*ᶜ_ (ipow 𝓡 (P .k))) (factors-entry 𝓡 (P .n) (P .x) (P .z) a b (f .xs) (f .zs) ha hb)
 
   -- row a has its one entry that is not 0 in column a xor x
   pub pauli-acts : (P : Pauli) → Fitting P → (F : ℕ → Amplitude R) (a : ℕ) → a < 2 ^ P .n → applied 𝓡 (2 ^ P .n) (pauli 𝓡 P) F a ≡ act P F a

@@ -1,4 +1,4 @@
--- Over any commutative ring the formula of promotion is the matrix that appends a qubit. Assumes nothing.
+-- Over any commutative ring the formula of promotion is the matrix that appends a qubit.
 use mathlib.Core.Path.{_≡_, sym, ap, _∙_}
 use mathlib.Core.Logic.{⊎-elim}
 use Prim.Native.Nat.{ℕ, suc, _+_, _-_, _*_, _^_, _≤_, _<_}

@@ -1,4 +1,4 @@
--- The complex numbers over a commutative ring, and the ring as an arithmetic in which the formulas are read without rounding. Assumes nothing.
+-- The complex numbers over a commutative ring, and the ring as an arithmetic in which the formulas are read without rounding.
 use Prim.Native.Nat.{ℕ, zero, suc}
 use Rattle.amplitudelaws.specs.Arithmetic.{Amplitude, Arithmetic}
 use Rattle.amplitudelaws.specs.Book.Ring.{Ring, ring}

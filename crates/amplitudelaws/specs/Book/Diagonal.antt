@@ -1,4 +1,4 @@
--- The part of a vector in a branch of a diagonal Pauli: the vector itself at the basis states with the branch's parity, 0 at the others. Assumes nothing.
+-- The part of a vector in a branch of a diagonal Pauli: the vector itself at the basis states with the branch's parity, 0 at the others.
 use mathlib.Core.Path.{_≡_, sym, ap, _∙_}
 use mathlib.Core.Bool.{true}
 use Prim.Native.Nat.{ℕ, _+_, _%_}

@@ -1,4 +1,4 @@
--- The columns of eigenvectors are an orthonormal basis of a branch's eigenspace, and a projection's formula is the projector, read in it. Assumes nothing.
+-- The columns of eigenvectors are an orthonormal basis of a branch's eigenspace, and a projection's formula is the projector, read in it.
 use mathlib.Core.Path.{_≡_, refl, sym, ap, ap₂, _∙_, subst}
 use mathlib.Core.Bool.{Bool, true, false, cond}
 use Prim.Native.Nat.{ℕ, suc, _+_, _-_, _%_, _^_, _≤_, _<_}

@@ -1,4 +1,4 @@
--- The Pauli group as matrices: the identity, a raised phase, what exchanging two Paulis costs, and which Paulis are their own adjoint. Assumes nothing.
+-- The Pauli group as matrices: the identity, a raised phase, what exchanging two Paulis costs, and which Paulis are their own adjoint.
 use mathlib.Core.Path.{_≡_, refl, sym, ap, ap₂, _∙_, subst}
 use mathlib.Core.Bool.{Bool, true, false, cond}
 use mathlib.Core.Logic.{⊎-elim, _↔_}
@@ -13,7 +13,7 @@ use Rattle.bitlaws.specs.Xor.{xor-comm, xor-self, xor-twice}
 use Rattle.bitlaws.specs.Parity.{overlap, overlap-comm, overlap-zero-l, overlap-zero-r, overlap-lt}
 use Rattle.paulilaws.specs.Pauli.{Pauli, product, anti, hermitian}
 use Rattle.paulilaws.specs.Pauli as group
-use Rattle.paulilaws.specs.Action.{Ket, acts}
+use Rattle.paulilaws.specs.Action.{Ket, onKet}
 use Rattle.paulilaws.specs.Algebra.{hermitian-square, parity-hermitian}
 use Rattle.paulilaws.specs.Fitting.{Fitting, identity-fitting, product-fitting}
 use Rattle.paulilaws.specs.Frame.{raised}
@@ -23,7 +23,7 @@ use Rattle.amplitudelaws.specs.Book.Complex.{complex, i, conj, pow, ipow
 use Rattle.amplitudelaws.specs.Book.Signs.{parity, sign-add, sign-even, sign-odd, pow-add, pow-mod, pow-double}
 use Rattle.amplitudelaws.specs.Book.Reals.{conj-mul, conj-pow, conj-sign}
 use Rattle.amplitudelaws.specs.Book.Matrix.{Matrix, identity, multiple, applied, joined, adjoint}
-use Rattle.amplitudelaws.specs.Book.Operators.{letters, pauli, turnedKet}
+use Rattle.amplitudelaws.specs.Book.Operators.{factors, pauli, turnedKet}
 use Rattle.amplitudelaws.specs.Book.Action.{act, pauli-entry, pauli-acts}
 use Rattle.amplitudelaws.specs.Book.Product.{product-is-book}
 
@@ -75,7 +75,7 @@ module _ {R : Type 0} (𝓡 : Ring R) where
   pub raised-is-book : (e : ℕ) (P : Pauli) (a b : ℕ) → pauli 𝓡 (raised e P) a b ≡ multiple 𝓡 (ipow 𝓡 e) (pauli 𝓡 P) a b
   unfolding pauli raised multiple
   raised-is-book e P a b =
-      let l : Amplitude R = letters 𝓡 (P .n) (P .x) (P .z) a b in
+      let l : Amplitude R = factors 𝓡 (P .n) (P .x) (P .z) a b in
       ap (λ (q : Amplitude R). q *ᶜ l) (pow-mod 𝓡 ((P .k + e) % 4) (e + P .k) (turns (P .k) e) ∙ pow-add (complex 𝓡) (i 𝓡) e (P .k))
       ∙ complex 𝓡 .mul-assoc (ipow 𝓡 e) (ipow 𝓡 (P .k)) l
     where
@@ -85,8 +85,8 @@ module _ {R : Type 0} (𝓡 : Ring R) where
   -- ---- a basis state
 
   pub acts-is-book : (P : Pauli) → Fitting P → (s : Ket) (a : ℕ) → a < 2 ^ P .n
-      → applied 𝓡 (2 ^ P .n) (pauli 𝓡 P) (turnedKet 𝓡 s) a ≡ turnedKet 𝓡 (acts P s) a
-  unfolding turnedKet acts
+      → applied 𝓡 (2 ^ P .n) (pauli 𝓡 P) (turnedKet 𝓡 s) a ≡ turnedKet 𝓡 (onKet P s) a
+  unfolding turnedKet onKet
   acts-is-book P f s a ha =
       pauli-acts 𝓡 P f (turnedKet 𝓡 s) a ha ∙ unfold act identity in (go (eqb o (s .basis)) (eqb a (bitXor (s .basis) (P .x))) refl refl)
     where
@@ -125,9 +125,9 @@ module _ {R : Type 0} (𝓡 : Ring R) where
         let t : ℕ = overlap (A .z) (B .x) in
         let u : ℕ = overlap (B .z) (A .x) in
         let s : ℕ = (overlap (A .x) (B .z) + t) % 2 in
-        let l : Amplitude R = letters 𝓡 (B .n) (bitXor (B .x) (A .x)) (bitXor (B .z) (A .z)) a b in
-        ap₂ (λ (x z : ℕ). ipow 𝓡 ((A .k + B .k + 2 * t) % 4) *ᶜ letters 𝓡 (A .n) x z a b) (xor-comm (A .x) (B .x)) (xor-comm (A .z) (B .z))
-        ∙ ap (λ (n : ℕ). ipow 𝓡 ((A .k + B .k + 2 * t) % 4) *ᶜ letters 𝓡 n (bitXor (B .x) (A .x)) (bitXor (B .z) (A .z)) a b) e
+        let l : Amplitude R = factors 𝓡 (B .n) (bitXor (B .x) (A .x)) (bitXor (B .z) (A .z)) a b in
+        ap₂ (λ (x z : ℕ). ipow 𝓡 ((A .k + B .k + 2 * t) % 4) *ᶜ factors 𝓡 (A .n) x z a b) (xor-comm (A .x) (B .x)) (xor-comm (A .z) (B .z))
+        ∙ ap (λ (n : ℕ). ipow 𝓡 ((A .k + B .k + 2 * t) % 4) *ᶜ factors 𝓡 n (bitXor (B .x) (A .x)) (bitXor (B .z) (A .z)) a b) e
         ∙ ap (λ (q : Amplitude R). q *ᶜ l)
         (pow-mod 𝓡 ((A .k + B .k + 2 * t) % 4) (2 * s + (B .k + A .k + 2 * u) % 4)
         (turns (A .k) (B .k) t u s (ap (λ (m : ℕ). (m + t) % 2) (overlap-comm (A .x) (B .z))))

@@ -1,4 +1,4 @@
--- A sum over all basis states, by those that stand for a branch's coordinates. Assumes nothing.
+-- A sum over all basis states, by those that stand for a branch's coordinates.
 use mathlib.Core.Path.{_≡_, refl, sym, ap, ap₂, _∙_, subst}
 use mathlib.Core.Logic.{_⊎_, inl, inr, ⊎-elim}
 use mathlib.Core.Bool.{Bool, true, false, cond}

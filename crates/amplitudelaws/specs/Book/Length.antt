@@ -1,4 +1,4 @@
--- The probability of a branch, before it is clamped, is the squared length of what the branch's projector leaves of the state. Assumes nothing.
+-- The probability of a branch, before it is clamped, is the squared length of what the branch's projector leaves of the state.
 use mathlib.Core.Path.{_≡_, refl, sym, ap, _∙_}
 use mathlib.Core.Bool.{Bool}
 use Prim.Native.Nat.{ℕ, zero, suc, _-_, _^_}

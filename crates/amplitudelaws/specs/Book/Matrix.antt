@@ -1,4 +1,4 @@
--- Matrices of complex numbers over a commutative ring, by row and column. A matrix has no size of its own: sums say how far they go. Assumes nothing.
+-- Matrices of complex numbers over a commutative ring, by row and column. A matrix has no size of its own: sums say how far they go.
 use mathlib.Core.Path.{_≡_, refl, sym, ap, _∙_}
 use mathlib.Core.Bool.{Bool, cond}
 use Prim.Native.Nat.{ℕ, _/_, _%_, _<_}

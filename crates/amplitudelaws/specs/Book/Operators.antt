@@ -1,4 +1,4 @@
--- The operators of Nielsen and Chuang that the steps stand for, as matrices. Qubit q is digit q of a row or a column. Assumes nothing.
+-- The operators of Nielsen and Chuang that the steps stand for, as matrices. Qubit q is digit q of a row or a column.
 use mathlib.Core.Bool.{Bool, true, false}
 use mathlib.Core.List.{List, [], _∷_}
 use Prim.Native.Nat.{ℕ, zero, suc, _+_, _*_, _/_, _%_, _^_}
@@ -69,17 +69,17 @@ module _ {R : Type 0} (𝓡 : Ring R) where
   once M (suc e) = M
 
   -- X^x Z^z on one qubit
-  unfoldable pub letter : ℕ → ℕ → Matrix R
-  letter x z = joined 𝓡 2 (once bitFlip x) (once phaseFlip z)
+  unfoldable pub factor : ℕ → ℕ → Matrix R
+  factor x z = joined 𝓡 2 (once bitFlip x) (once phaseFlip z)
 
   -- the tensor product of these over n qubits
-  unfoldable pub letters : ℕ → ℕ → ℕ → Matrix R
-  letters zero x z = identity 𝓡
-  letters (suc n) x z = tensor 𝓡 2 (letters n (x / 2) (z / 2)) (letter (x % 2) (z % 2))
+  unfoldable pub factors : ℕ → ℕ → ℕ → Matrix R
+  factors zero x z = identity 𝓡
+  factors (suc n) x z = tensor 𝓡 2 (factors n (x / 2) (z / 2)) (factor (x % 2) (z % 2))
 
   -- i^k X^x Z^z
   unfoldable pub pauli : Pauli → Matrix R
-  pauli P = multiple 𝓡 (ipow 𝓡 (P .k)) (letters (P .n) (P .x) (P .z))
+  pauli P = multiple 𝓡 (ipow 𝓡 (P .k)) (factors (P .n) (P .x) (P .z))
 
   -- ---- vectors
 

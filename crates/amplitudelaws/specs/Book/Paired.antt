@@ -1,4 +1,4 @@
--- The parts of two vectors in a branch have the same product at two basis states that M exchanges: the phases cancel. Assumes nothing.
+-- The parts of two vectors in a branch have the same product at two basis states that M exchanges: the phases cancel.
 use mathlib.Core.Path.{_≡_, sym, ap, ap₂, _∙_}
 use mathlib.Core.Bool.{true}
 use Prim.Native.Nat.{ℕ}

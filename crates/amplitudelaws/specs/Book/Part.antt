@@ -1,4 +1,4 @@
--- The part of a vector in a branch of a Hermitian Pauli, entry by entry: M multiplies it by (-1)^v, and it is its own part. Assumes nothing.
+-- The part of a vector in a branch of a Hermitian Pauli, entry by entry: M multiplies it by (-1)^v, and it is its own part.
 use mathlib.Core.Path.{_≡_, refl, sym, ap, ap₂, _∙_}
 use mathlib.Core.Bool.{true}
 use Prim.Native.Nat.{ℕ, _+_}

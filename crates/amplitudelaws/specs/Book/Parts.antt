@@ -1,4 +1,4 @@
--- Each formula on amplitudes, over a commutative ring, as an expression in its complex numbers. Assumes nothing.
+-- Each formula on amplitudes, over a commutative ring, as an expression in its complex numbers.
 use mathlib.Core.Path.{_≡_, refl, ap, _∙_}
 use mathlib.Core.Logic.{⊎-elim}
 use mathlib.Core.Bool.{Bool, true, false}

@@ -1,4 +1,4 @@
--- The product of two Paulis acts as the second and then the first, and its matrix is the product of theirs. Assumes nothing.
+-- The product of two Paulis acts as the second and then the first, and its matrix is the product of theirs.
 use mathlib.Core.Path.{_≡_, sym, ap, _∙_}
 use Prim.Native.Nat.{ℕ, _+_, _*_, _%_, _^_, _<_}
 use native.Mathlib.Omega.{arith}

@@ -1,4 +1,4 @@
--- The projector on a branch of a Hermitian Pauli: it takes a vector's part in the branch, is its own adjoint, and its own square. Assumes nothing.
+-- The projector on a branch of a Hermitian Pauli: it takes a vector's part in the branch, is its own adjoint, and its own square.
 use mathlib.Core.Path.{_≡_, refl, sym, ap, ap₂, _∙_}
 use mathlib.Core.Bool.{Bool, true, false, cond}
 use Prim.Native.Nat.{ℕ, _+_, _^_, _<_}

@@ -1,4 +1,4 @@
--- Real numbers and conjugates among the complex numbers over a commutative ring. Assumes nothing.
+-- Real numbers and conjugates among the complex numbers over a commutative ring.
 use mathlib.Core.Path.{_≡_, refl, sym, _∙_}
 use mathlib.Core.Logic.{⊎-elim}
 use Prim.Native.Nat.{ℕ, zero, suc, _%_, _<_}

@@ -1,4 +1,4 @@
--- What a projection leaves, before invnorm, is an entry of the state's part in the branch, twice h of it where two amplitudes are mixed. Assumes nothing.
+-- What a projection leaves, before invnorm, is an entry of the state's part in the branch, twice h of it where two amplitudes are mixed.
 use mathlib.Core.Path.{_≡_, refl, sym, ap, ap₂, _∙_}
 use mathlib.Core.Bool.{Bool, true, false, cond}
 use Prim.Native.Nat.{ℕ, _+_}

@@ -1,4 +1,4 @@
--- Commutative rings, and the list `ring` with which simp brings both sides of an equation to one form. Assumes nothing.
+-- Commutative rings, and the list `ring` with which simp brings both sides of an equation to one form.
 use mathlib.Core.Path.{_≡_, sym, ap, _∙_}
 
 pub record Ring (R : Type 0) : Type 0 where

@@ -1,4 +1,4 @@
--- Powers of -1 in a commutative ring, and of i in its complex numbers. Assumes nothing.
+-- Powers of -1 in a commutative ring, and of i in its complex numbers.
 use mathlib.Core.Path.{_≡_, refl, sym, ap, _∙_}
 use mathlib.Core.Logic.{_⊎_, inl, inr, ⊎-elim}
 use Prim.Native.Nat.{ℕ, zero, suc, _+_, _*_, _/_, _%_}

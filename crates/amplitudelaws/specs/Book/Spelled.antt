@@ -1,4 +1,4 @@
--- A Pauli by its letters: i to its coefficient times the tensor product of the matrices of I, X, Y and Z. Assumes nothing.
+-- A Pauli by its letters: i to its coefficient times the tensor product of the matrices of I, X, Y and Z.
 use mathlib.Core.Path.{_≡_, refl, sym, ap, ap₂, _∙_}
 use mathlib.Core.Bool.{Bool, true, false, cond}
 use Prim.Native.Nat.{ℕ, zero, suc, _+_, _*_, _/_, _%_, _^_, _<_, min}
@@ -20,8 +20,8 @@ use Rattle.amplitudelaws.specs.Book.Complex.{complex, i, pow, ipow, sgn}
 use Rattle.amplitudelaws.specs.Book.Signs.{pow-add, pow-mod, pow-double}
 use Rattle.amplitudelaws.specs.Book.Sum.{sum}
 use Rattle.amplitudelaws.specs.Book.Matrix.{identity, multiple, joined, tensor}
-use Rattle.amplitudelaws.specs.Book.Operators.{bitFlip, bothFlip, phaseFlip, letterMatrix, spelled, once, letter, letters, pauli}
-use Rattle.amplitudelaws.specs.Book.Letters.{as-bit}
+use Rattle.amplitudelaws.specs.Book.Operators.{bitFlip, bothFlip, phaseFlip, letterMatrix, spelled, once, factor, factors, pauli}
+use Rattle.amplitudelaws.specs.Book.Factors.{as-bit}
 
 lowest : (a : ℕ) → digit 0 a ≡ a % 2
 unfolding digit
@@ -44,8 +44,8 @@ module _ {R : Type 0} (𝓡 : Ring R) where
       ap₂ _*ᶜ_ (spelled-same n (λ q. l (suc q)) (λ q. m (suc q)) (λ q. e (suc q)) (a / 2) (b / 2)) (ap (λ (t : Letter). letterMatrix 𝓡 t (a % 2) (b % 2)) (e 0))
 
   letter-bits : (x z a b : Bool) → letterMatrix 𝓡 (letterOf (bitOf x) (bitOf z)) (bitOf a) (bitOf b)
-      ≡ ipow 𝓡 (min (bitOf x) (bitOf z)) *ᶜ letter 𝓡 (bitOf x) (bitOf z) (bitOf a) (bitOf b)
-  unfolding letterMatrix bothFlip letter joined sum once bitFlip phaseFlip identity pow
+      ≡ ipow 𝓡 (min (bitOf x) (bitOf z)) *ᶜ factor 𝓡 (bitOf x) (bitOf z) (bitOf a) (bitOf b)
+  unfolding letterMatrix bothFlip factor joined sum once bitFlip phaseFlip identity pow
   letter-bits false false false false = simp ring
   letter-bits false false false true = simp ring
   letter-bits false false true false = simp ring
@@ -63,13 +63,13 @@ module _ {R : Type 0} (𝓡 : Ring R) where
   letter-bits true true true false = simp ring
   letter-bits true true true true = simp ring
 
-  one-letter : (x z a b : ℕ) → x < 2 → z < 2 → a < 2 → b < 2 → letterMatrix 𝓡 (letterOf x z) a b ≡ ipow 𝓡 (min x z) *ᶜ letter 𝓡 x z a b
+  one-letter : (x z a b : ℕ) → x < 2 → z < 2 → a < 2 → b < 2 → letterMatrix 𝓡 (letterOf x z) a b ≡ ipow 𝓡 (min x z) *ᶜ factor 𝓡 x z a b
   one-letter x z a b p q r s = rw (as-bit x p, as-bit z q, as-bit a r, as-bit b s) (letter-bits (eqb x 1) (eqb z 1) (eqb a 1) (eqb b 1))
 
   -- each Y is i X Z
   spelled-letters : (n x z a b : ℕ) → x < 2 ^ n → z < 2 ^ n
-      → spelled 𝓡 n (λ q. letterOf (digit q x) (digit q z)) a b ≡ ipow 𝓡 (ones (bitAnd x z)) *ᶜ letters 𝓡 n x z a b
-  unfolding spelled letters tensor
+      → spelled 𝓡 n (λ q. letterOf (digit q x) (digit q z)) a b ≡ ipow 𝓡 (ones (bitAnd x z)) *ᶜ factors 𝓡 n x z a b
+  unfolding spelled factors tensor
   spelled-letters zero x z a b hx hz =
       let x0 : x ≡ 0 = omega arith in
       let z0 : z ≡ 0 = omega arith in
@@ -88,10 +88,10 @@ module _ {R : Type 0} (𝓡 : Ring R) where
       up q a = let e : suc q ≡ 1 + q = omega arith in ap (λ (r : ℕ). digit r a) e ∙ digit-high 1 q a
 
       high : Amplitude R
-      high = letters 𝓡 n (x / 2) (z / 2) (a / 2) (b / 2)
+      high = factors 𝓡 n (x / 2) (z / 2) (a / 2) (b / 2)
 
       low : Amplitude R
-      low = letter 𝓡 (x % 2) (z % 2) (a % 2) (b % 2)
+      low = factor 𝓡 (x % 2) (z % 2) (a % 2) (b % 2)
 
       y : ℕ
       y = ones (bitAnd (x / 2) (z / 2))
@@ -108,7 +108,7 @@ module _ {R : Type 0} (𝓡 : Ring R) where
   pauli-spelled P f a b =
       let y : ℕ = ones (bitAnd (P .x) (P .z)) in
       let c : ℕ = (P .k + 3 * y) % 4 in
-      let l : Amplitude R = letters 𝓡 (P .n) (P .x) (P .z) a b in
+      let l : Amplitude R = factors 𝓡 (P .n) (P .x) (P .z) a b in
       ap (λ (q : Amplitude R). q *ᶜ l) (pow-mod 𝓡 (P .k) (c + y) (turns (P .k) y) ∙ pow-add (complex 𝓡) (i 𝓡) c y)
       ∙ complex 𝓡 .mul-assoc (ipow 𝓡 c) (ipow 𝓡 y) l
       ∙ ap (λ (q : Amplitude R). ipow 𝓡 c *ᶜ q) (sym (spelled-letters (P .n) (P .x) (P .z) a b (f .xs) (f .zs)))

@@ -1,4 +1,4 @@
--- The basis states that stand for coordinates are those which the formulas read. Assumes nothing.
+-- The basis states that stand for coordinates are those which the formulas read.
 use mathlib.Core.Path.{_≡_, refl, ap, _∙_}
 use mathlib.Core.Bool.{Bool, true, false}
 use Prim.Native.Nat.{ℕ, zero, suc, _+_, _*_, _/_, _%_, _^_, _<_}

@@ -1,4 +1,4 @@
--- The basis state that stands for a coordinate of a diagonal Pauli's branch is one that the Pauli takes times (-1)^v. Assumes nothing.
+-- The basis state that stands for a coordinate of a diagonal Pauli's branch is one that the Pauli takes times (-1)^v.
 use mathlib.Core.Path.{_≡_, refl, sym, ap, _∙_}
 use mathlib.Core.Bool.{Bool, true, false, cond}
 use Prim.Native.Nat.{ℕ, _+_, _%_, _^_, _<_}

@@ -1,4 +1,4 @@
--- Finite sums in a commutative ring. Assumes nothing.
+-- Finite sums in a commutative ring.
 use mathlib.Core.Path.{_≡_, refl, sym, ap, ap₂, _∙_}
 use mathlib.Core.Logic.{⊎-elim}
 use Prim.Native.Nat.{ℕ, zero, suc, _+_, _≤_, _<_}

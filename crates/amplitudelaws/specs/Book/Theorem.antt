@@ -1,5 +1,5 @@
 -- Over any commutative ring with h h + h h = 1 the Paulis are the matrices of Nielsen and Chuang, the formulas of a step their operator, and those of a list of
--- steps the product of their operators. Assumes nothing.
+-- steps the product of their operators.
 use mathlib.Core.Path.{_≡_, sym, _∙_}
 use mathlib.Core.List.{List, [], _∷_}
 use mathlib.Core.Bool.{true, cond}
@@ -65,7 +65,7 @@ pub record Book {R : Type 0} (𝓡 : Ring R) (h : R) : Type 0 where
       → pauli 𝓡 P a b ≡ multiple 𝓡 (sgn 𝓡 (sign P)) (spelled 𝓡 (P .n) (λ q. letterAt q P)) a b
   -- what P does to a basis state, its matrix does
   pub kets : (P : Pauli) → Fitting P → (s : Ket) (a : ℕ) → a < 2 ^ P .n
-      → applied 𝓡 (2 ^ P .n) (pauli 𝓡 P) (turnedKet 𝓡 s) a ≡ turnedKet 𝓡 (basis.acts P s) a
+      → applied 𝓡 (2 ^ P .n) (pauli 𝓡 P) (turnedKet 𝓡 s) a ≡ turnedKet 𝓡 (basis.onKet P s) a
   -- ---- steps
 
   -- a step of any kind applies its operator: the rotation c - i s P, the new qubit c|0> + i q|1>, the projector on the branch, the Pauli i^k X^x Z^z

@@ -1,4 +1,4 @@
--- Over any commutative ring the formulas of correction and rotation are the matrices of the Pauli and of its rotation. Assumes nothing.
+-- Over any commutative ring the formulas of correction and rotation are the matrices of the Pauli and of its rotation.
 use mathlib.Core.Path.{_≡_, refl, sym, ap, ap₂, _∙_}
 use mathlib.Core.Bool.{Bool, true, false}
 use Prim.Native.Nat.{ℕ, _+_, _*_, _%_, _^_, _<_}

@@ -1,4 +1,4 @@
--- `main` writes the whole listing: the buffer is long enough for every one, so that the refusal is never met. Assumes nothing.
+-- `main` writes the whole listing: the buffer is long enough for every one, so that the refusal is never met.
 use mathlib.Core.Path.{_≡_, sym}
 use mathlib.Core.List.{List}
 use Prim.Native.Nat.{ℕ, _≤_}

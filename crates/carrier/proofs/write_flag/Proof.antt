@@ -1,7 +1,8 @@
 use mathlib.Core.Path.{ap}
 use native.Mathlib.Omega.{arith}
 use Rattle.runlaws.specs.Flags.{fieldSize, flagAt}
-use Rattle.steps.specs.Meant.{stepOf}
+use Rattle.steps.proofs.Flag.{byte-digit}
+use Rattle.steps.specs.Meaning.{stepOf}
 use borrow.Author.Needs.{needs}
 use Rattle.carrier.proofs.write_flag.Statement.{statement}
 use Rattle.carrier.proofs.write_flag.Tie as tie
@@ -9,8 +10,8 @@ use Rattle.carrier.proofs.write_flag.Tie as tie
 enum-known-step : tie.Need-enum-known-step
 enum-known-step c = search needs
 
-digit-requires : tie.Need-digit-requires
-digit-requires c κs = search needs
+cast-out : tie.Need-cast-out
+cast-out c = search needs
 
 add-out : tie.Need-add-out
 add-out c = search needs
@@ -18,14 +19,14 @@ add-out c = search needs
 slice-write-out : tie.Need-slice-write-out
 unfolding fieldSize
 slice-write-out c =
-    let start = c .before .before .before .before .before in
-    omega (arith, ap (λ t. fieldSize (stepOf t)) (c .before .before .step .given .1), start .pre)
+    let start = c .before .before .before in
+    omega (arith, ap (λ t. fieldSize (stepOf t)) (c .before .step .given .1), start .pre)
 
 enum-known-step-2 : tie.Need-enum-known-step-2
 enum-known-step-2 c = search needs
 
-digit-requires-2 : tie.Need-digit-requires-2
-digit-requires-2 c κs = search needs
+cast-out-2 : tie.Need-cast-out-2
+cast-out-2 c = search needs
 
 add-out-2 : tie.Need-add-out-2
 add-out-2 c = search needs
@@ -33,8 +34,8 @@ add-out-2 c = search needs
 slice-write-out-2 : tie.Need-slice-write-out-2
 unfolding fieldSize
 slice-write-out-2 c =
-    let start = c .before .before .before .before .before in
-    omega (arith, ap (λ t. fieldSize (stepOf t)) (c .before .before .step2 .given .1), start .pre)
+    let start = c .before .before .before in
+    omega (arith, ap (λ t. fieldSize (stepOf t)) (c .before .step2 .given .1), start .pre)
 
 enum-told : tie.Need-enum-told
 enum-told c = search needs
@@ -47,14 +48,14 @@ same-length c = search needs
 
 returns : tie.Need-returns
 unfolding flagAt
-returns c = rw (c .before .before .step .given .1, c .digit .ensures .0)
+returns c = rw (c .before .step .given .1, byte-digit _)
 
 same-length-2 : tie.Need-same-length-2
 same-length-2 c = search needs
 
 returns-2 : tie.Need-returns-2
 unfolding flagAt
-returns-2 c = rw (c .before .before .step2 .given .1, c .digit2 .ensures .0)
+returns-2 c = rw (c .before .step2 .given .1, byte-digit _)
 
 returns-3 : tie.Need-returns-3
 unfolding flagAt
@@ -69,11 +70,11 @@ write-flag-spec =
     tie.close
     (tie.spec
     enum-known-step
-    digit-requires
+    cast-out
     add-out
     slice-write-out
     enum-known-step-2
-    digit-requires-2
+    cast-out-2
     add-out-2
     slice-write-out-2
     enum-told

@@ -1,64 +1,46 @@
--- `checker::check_within` meets its contract. Assumes nothing.
+-- `checker::check_within` meets its contract: a checked run without its start.
 use mathlib.Core.Path.{_≡_, sym, ap, _∙_}
 use mathlib.Core.List.{List}
-use mathlib.Core.Option.{some}
-use Prim.Native.Nat.{ℕ, _≤_}
-use lib.Ieee.{Float}
-use lib.ListN.{length}
+use Prim.Native.Nat.{ℕ}
 use borrow.Author.Needs.{needs}
-use Rattle.answers.specs.Answer.Answer.{refusedAt}
-use Rattle.amplitudelaws.specs.Step.{Step}
-use Rattle.framelaws.specs.Survey.{survey}
-use Rattle.runlaws.specs.Calls.{surveyOf, checking}
-use Rattle.runlaws.specs.Field.{mostBytes, fieldAt}
-use Rattle.runlaws.specs.Run.{Run, mapped, walk, startWidth, runOf}
+use Rattle.answers.specs.Answer.{Answer}
+use Rattle.framelaws.specs.Survey.{Survey}
+use Rattle.runlaws.specs.Calls.{CheckedRun, checking, checkedRunOf, checkingWithStart}
 use Rattle.runlaws.specs.Mapped.{mapped-mapped}
-use Rattle.runlaws.specs.WholeRun.{start-read, run-begun}
-use Rattle.fields.proofs.Started.{started, unstarted}
+use Rattle.runlaws.specs.Run.{mapped, runOf}
+use Rattle.checker.specs.Meaning.{checkedOf}
 use Rattle.checker.proofs.check_within.Statement.{statement}
 use Rattle.checker.proofs.check_within.Tie as tie
 
-unbegun : (limit : ℕ) (s : List ℕ) → runOf limit s ≡ refusedAt 14 0 → refusedAt 14 0 ≡ checking limit s
-unfolding checking mapped
-unbegun limit s e = sym (ap (mapped surveyOf) e)
+surveyed : CheckedRun → Survey
+surveyed k = k .survey
 
-begun : (limit : ℕ) (s : List ℕ) (n : ℕ) → length s ≤ mostBytes → startWidth limit (fieldAt s 0) ≡ some n
-    → mapped (survey n) (walk limit (length s) s (record { at = 4; width = n })) ≡ checking limit s
-unfolding checking surveyOf
-begun limit s n short e =
-    let steps = walk limit (length s) s (record { at = 4; width = n }) in
-    let whole : List (Step Float) → Run = λ ts. record { width = n; steps = ts } in
-    sym (ap (mapped surveyOf) (run-begun limit s short n e) ∙ mapped-mapped surveyOf whole steps)
+without-start : (limit : ℕ) (s : List ℕ) (a : Answer CheckedRun) → a ≡ checkingWithStart limit s → mapped surveyed a ≡ checking limit s
+unfolding checking checkingWithStart surveyed
+without-start limit s a e = ap (mapped surveyed) e ∙ mapped-mapped surveyed checkedRunOf (runOf limit s)
 
-start-requires : tie.Need-start-requires
-start-requires c κs = search needs
+check-with-start-requires : tie.Need-check-with-start-requires
+check-with-start-requires c κs = search needs
 
-enum-known-width : tie.Need-enum-known-width
-enum-known-width c = search needs
+enum-known-row : tie.Need-enum-known-row
+enum-known-row c = search needs
 
-enum-told : tie.Need-enum-told
-enum-told c = search needs
+enum-known-survey : tie.Need-enum-known-survey
+enum-known-survey c = search needs
 
 returns : tie.Need-returns
-returns c = unbegun _ _ (unstarted _ _ (c .before .before .start .ensures) (c .enum-told .given .1))
-
-survey-steps-requires : tie.Need-survey-steps-requires
-survey-steps-requires c κs =
-    let begins = started _ _ (c .before .before .before .start .ensures) (c .before .width .given .1) in
-    (start-read _ _ _ (begins .1) .begins, begins .0)
+unfolding mapped surveyed
+returns c =
+    let asked = c .before .before .before in
+    without-start _ _ _ (ap checkedOf (sym (c .before .row .given .1)) ∙ asked .check-with-start .ensures)
 
 returns-2 : tie.Need-returns-2
+unfolding mapped surveyed
 returns-2 c =
-    let begins = started _ _ (c .before .before .before .before .start .ensures) (c .before .before .width .given .1) in
-    c .survey-steps .ensures ∙ begun _ _ _ (begins .0) (begins .1)
+    let asked = c .before .before .before in
+    without-start _ _ _ (ap checkedOf (sym (c .before .survey .given .1)) ∙ asked .check-with-start .ensures)
 
 pub check-within-spec : {M : Type 1} → statement M
 check-within-spec =
     tie.close
-    (tie.spec
-    start-requires
-    enum-known-width
-    enum-told
-    returns
-    survey-steps-requires
-    returns-2)
+    (tie.spec check-with-start-requires enum-known-row enum-known-survey returns returns-2)

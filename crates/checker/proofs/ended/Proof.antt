@@ -1,4 +1,4 @@
--- `checker::ended` meets its contract, kind by kind of read. Assumes nothing.
+-- `checker::ended` meets its contract, kind by kind of read.
 use mathlib.Core.Path.{_≡_}
 use Prim.Native.Nat.{ℕ, _<_, _≤_}
 use borrow.Author.Needs.{needs}
@@ -9,25 +9,25 @@ use Rattle.steps.specs.declared.Cursor.{Cursor}
 use Rattle.steps.specs.declared.Step.{Step}
 use Rattle.steps.specs.declared.Read.{Read}
 use Rattle.steps.specs.declared.Read.the-variants as read
-use Rattle.steps.specs.Meant.{readTold}
+use Rattle.steps.specs.Meaning.{readOf}
 use Rattle.checker.specs.Surveyed.{endedBy}
 use Rattle.checker.proofs.ended.Statement.{statement}
 use Rattle.checker.proofs.ended.Tie as tie
 
 module _ (size : ℕ) (v : Survey) {got : Read} where
-  at-refusal : (n at : ℕ) → got ≡ read.Refused n at → refusedAt n at ≡ endedBy size (readTold got) v
+  at-refusal : (n at : ℕ) → got ≡ read.Refused n at → refusedAt n at ≡ endedBy size (readOf got) v
   unfolding endedBy
   at-refusal n at e = rw e
 
-  past-end : (d : Cursor) → got ≡ read.End d → d .at < size → refusedAt 14 (d .at) ≡ endedBy size (readTold got) v
+  past-end : (d : Cursor) → got ≡ read.End d → d .at < size → refusedAt 14 (d .at) ≡ endedBy size (readOf got) v
   unfolding endedBy
   past-end d e h = rw (e, lt-ltb (d .at) size h)
 
-  at-end : (d : Cursor) → got ≡ read.End d → size ≤ d .at → accepted v ≡ endedBy size (readTold got) v
+  at-end : (d : Cursor) → got ≡ read.End d → size ≤ d .at → accepted v ≡ endedBy size (readOf got) v
   unfolding endedBy
   at-end d e h = rw (e, le-ltb (d .at) size h)
 
-  at-step : (t : Step) (d : Cursor) → got ≡ read.Step t d → refusedAt 14 (d .at) ≡ endedBy size (readTold got) v
+  at-step : (t : Step) (d : Cursor) → got ≡ read.Step t d → refusedAt 14 (d .at) ≡ endedBy size (readOf got) v
   unfolding endedBy
   at-step t d e = rw e
 

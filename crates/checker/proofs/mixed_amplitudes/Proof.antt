@@ -1,4 +1,4 @@
--- `checker::mixed_amplitudes` meets its contract, kind by kind of step. Assumes nothing.
+-- `checker::mixed_amplitudes` meets its contract, kind by kind of step.
 use mathlib.Core.Path.{sym, ap, _∙_, subst}
 use Prim.Native.Nat.{ℕ, _-_, _<_, _≤_}
 use native.Mathlib.Omega.{arith}
@@ -8,7 +8,7 @@ use Rattle.bitlaws.specs.Digit.{one-shifted}
 use Rattle.amplitudelaws.specs.Rows.{widestKernel}
 use Rattle.framelaws.specs.Survey.{mixedAmplitudes}
 use Rattle.steps.specs.declared.Step.{Step}
-use Rattle.steps.specs.Meant.{stepOf}
+use Rattle.steps.specs.Meaning.{stepOf}
 use Rattle.checker.specs.Surveyed.{Measured}
 use Rattle.checker.proofs.mixed_amplitudes.Statement.{statement}
 use Rattle.checker.proofs.mixed_amplitudes.Tie as tie

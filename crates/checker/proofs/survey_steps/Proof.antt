@@ -1,22 +1,23 @@
--- `checker::survey_steps` meets its contract. Assumes nothing.
+-- `checker::survey_steps` meets its contract.
 use mathlib.Core.Path.{_≡_, sym, ap, _∙_}
 use Prim.Native.Nat.{_-_}
 use native.Mathlib.Omega.{arith}
 use lib.ListN.{length}
 use borrow.Author.Needs.{needs}
-use Rattle.framelaws.specs.Survey as list
+use Rattle.framelaws.specs.Survey as frame
 use Rattle.runlaws.specs.Reading.{readAt}
 use Rattle.runlaws.specs.Reading.Read.{stepRead}
 use Rattle.runlaws.specs.Run.{mapped, walk}
-use Rattle.steps.specs.Meant.{cursorOf, stepOf, readTold}
-use Rattle.checker.specs.Told.{surveyMeant}
+use Rattle.steps.specs.Meaning.{cursorOf, stepOf, readOf}
+use Rattle.checker.specs.Meaning.{surveyFieldsOf}
 use Rattle.checker.proofs.Surveying.{Surveying, at-start, moves, surveyable, one-more, no-step}
 use Rattle.checker.proofs.survey_steps.Statement.{statement}
 use Rattle.checker.proofs.survey_steps.Tie as tie
 
 abbrev Inv-loop : tie.InvT-loop
 Inv-loop run width limit cursor₀ survey₀ cursor survey =
-    Surveying limit run (mapped (list.survey width) (walk limit (length run) run (record { at = 4; width = width }))) (cursorOf cursor) (surveyMeant survey)
+    Surveying limit run (mapped (frame.survey width) (walk limit (length run) run (record { at = 4; width = width })))
+    (cursorOf cursor) (surveyFieldsOf survey)
 
 abbrev μ-loop : tie.MeasureT-loop
 μ-loop run width limit cursor₀ survey₀ cursor survey = length run - cursor .at
@@ -42,7 +43,7 @@ returns c =
 step-got : (c : tie.After-got Inv-loop μ-loop) → let at-loop = c .before .before .before in
     let a = at-loop .before .before .args in
     readAt (a .limit) (a .run .now) (cursorOf (at-loop .loop .cursor)) ≡ stepRead (stepOf (c .got .given .0 .0)) (cursorOf (c .got .given .0 .1 .0))
-step-got c = sym (c .before .before .read .ensures) ∙ ap readTold (c .got .given .1)
+step-got c = sym (c .before .before .read .ensures) ∙ ap readOf (c .got .given .1)
 
 surveyed-requires : tie.Need-surveyed-requires Inv-loop μ-loop
 surveyed-requires c κs =

@@ -1,4 +1,4 @@
--- `checker::surveyed` meets its contract, part by part. Assumes nothing.
+-- `checker::surveyed` meets its contract, part by part.
 use mathlib.Core.Path.{_≡_}
 use Prim.Native.Nat.{ℕ, _+_, max}
 use lib.Ieee.{Float}

@@ -1,11 +1,11 @@
 use mathlib.Core.Path.{sym, _∙_}
+use Rattle.answers.specs.Outcome.{finished}
 use Rattle.answers.specs.Row.{first-passed, refusing, passing}
 use Rattle.activepauli.specs.Active.{activeOf}
 use Rattle.amplitudelaws.specs.Passed.{width-passed, room-passed}
 use Rattle.amplitudelaws.specs.Rows.{widestKernel, widthRow, roomRow, correctionRow}
 use Rattle.amplitudelaws.specs.State.{stateOf, room}
 use Rattle.amplitudelaws.specs.Steps.{correction}
-use Rattle.kernels.specs.Kernel.{finished}
 use borrow.Author.Needs.{needs}
 use Rattle.correction.proofs.correct_contiguous_active.Statement.{statement}
 use Rattle.correction.proofs.correct_contiguous_active.Tie as tie
@@ -30,7 +30,7 @@ correct-requires c κs =
     let rows = first-passed (widthRow widestKernel P) (roomRow (room (P .n) S)) (sym (looked .refusal .ensures) ∙ c .before .before .if1 .left) in
     let wide = width-passed widestKernel P (rows .0) in
     let lengths = room-passed (P .n) S (rows .1) in
-    (wide .1, wide .0 .xs, lengths .0, lengths .1)
+    (wide .1, wide .0 .xs, lengths)
 
 same-length : tie.Need-same-length
 same-length c = search needs

@@ -7,17 +7,17 @@ use native.Mathlib.Omega.{arith}
 use Rattle.runlaws.specs.Field.{Field}
 use Rattle.fields.specs.declared.FieldAnswer.{FieldAnswer}
 use Rattle.fields.specs.declared.FieldAnswer.the-variants.{Whole}
-use Rattle.fields.specs.Told.{fieldIn, placeIn, headTold, headOf, bodyOf}
+use Rattle.fields.specs.Meaning.{fieldIn, placeIn, fieldAnswerOf, headCall, bodyCall}
 use Rattle.fields.proofs.Fields.{field-none, Placed, body-placed}
 use Rattle.fields.proofs.body.Statement.{statement}
 use Rattle.fields.proofs.body.Tie as tie
 use Rattle.fields.proofs.field.Reads as field-reads
 
 -- the head of the field, by what `field` answered
-told : (at : ℕ) (f : Option Field) {r v : FieldAnswer} → headTold r ≡ headOf at f → r ≡ v → headTold v ≡ headOf at f
-told at f e given = ap headTold (sym given) ∙ e
+told : (at : ℕ) (f : Option Field) {r v : FieldAnswer} → fieldAnswerOf r ≡ headCall at f → r ≡ v → fieldAnswerOf v ≡ headCall at f
+told at f e given = ap fieldAnswerOf (sym given) ∙ e
 
-placed : (s : List ℕ) (at : ℕ) {tag next : ℕ} {r : FieldAnswer} → headTold r ≡ headOf (placeIn s at) (fieldIn s at) → r ≡ Whole tag next → Placed s at next
+placed : (s : List ℕ) (at : ℕ) {tag next : ℕ} {r : FieldAnswer} → fieldAnswerOf r ≡ headCall (placeIn s at) (fieldIn s at) → r ≡ Whole tag next → Placed s at next
 placed s at {tag} {next} e given = body-placed s at tag next (told (placeIn s at) (fieldIn s at) e given)
 
 field-requires : tie.Need-field-requires
@@ -39,8 +39,8 @@ part-result-end : tie.Need-part-result-end
 part-result-end c = search needs
 
 returns : tie.Need-returns
-unfolding bodyOf
-returns c = sym (ap bodyOf (field-none _ _ (told _ _ (c .before .before .before .field .ensures) (c .before .enum-told .given .1))))
+unfolding bodyCall
+returns c = sym (ap bodyCall (field-none _ _ (told _ _ (c .before .before .before .field .ensures) (c .before .enum-told .given .1))))
 
 add-result : tie.Need-add-result
 add-result c = let p = placed _ _ (c .before .before .before .field .ensures) (c .before .next .given .1) in omega (arith, p .starts, p .ends)

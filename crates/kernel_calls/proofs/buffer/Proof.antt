@@ -1,4 +1,4 @@
--- `kernel_calls::buffer` meets its contract, by a lemma: the search would count the zeros one by one. Assumes nothing.
+-- `kernel_calls::buffer` meets its contract, by a lemma: the search would count the zeros one by one.
 use Prim.Native.Nat.{ℕ}
 use mathlib.Core.Path.{sym}
 use lib.ListN.{length-replicate}

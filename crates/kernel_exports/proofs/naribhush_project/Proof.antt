@@ -1,11 +1,11 @@
 use mathlib.Core.Path.{_≡_, sym, ap, ap₂, _∙_}
 use Prim.Native.Nat.{ℕ}
+use Rattle.answers.specs.Outcome.{finished}
 use Rattle.answers.specs.Row.{first, answered, left, refusing}
 use Rattle.activepauli.specs.Active.{activeOf}
+use Rattle.amplitudelaws.specs.Calls.{projectedMemory}
+use Rattle.amplitudelaws.specs.Memory.{memoryOf}
 use Rattle.amplitudelaws.specs.Rows.{projectionRow}
-use Rattle.amplitudelaws.specs.State.{stateOf}
-use Rattle.amplitudelaws.specs.Steps.{projection, scratchAfter}
-use Rattle.kernels.specs.Kernel.{finished}
 use Rattle.verdicts.specs.Flag.{flagRow}
 use Rattle.verdicts.specs.Verdict.{verdictOf}
 use Rattle.kernel_exports.proofs.Flagged.{own-row, its-bit}
@@ -39,9 +39,8 @@ same-length-4 c = search needs
 
 -- the row that was looked at
 looked : (c : tie.After-first) → let a = c .before .before .before .before .before .before .before .before .before .before .before .args in
-    let S = stateOf (a .re .now) (a .im .now) in
-    let B = stateOf (a .scratch-re .now) (a .scratch-im .now) in
-    c .first .result ≡ first (projectionRow (activeOf (a .pauli)) (a .pivot) (a .invnorm) S B) (flagRow (a .branch))
+    let m = memoryOf (a .re .now) (a .im .now) (a .scratch-re .now) (a .scratch-im .now) in
+    c .first .result ≡ first (projectionRow (activeOf (a .pauli)) (a .pivot) (a .invnorm) (m .state) (m .scratch)) (flagRow (a .branch))
 looked c = c .first .ensures ∙ ap₂ first (c .before .before .projection-row .ensures) (c .before .flag-row .ensures)
 
 returns : tie.Need-returns
@@ -49,12 +48,11 @@ returns c =
     let rows = c .before .before in
     let a = rows .before .before .before .before .before .before .before .before .before .before .before .args in
     let M = activeOf (a .pauli) in
-    let S = stateOf (a .re .now) (a .im .now) in
-    let B = stateOf (a .scratch-re .now) (a .scratch-im .now) in
-    let R = first (projectionRow M (a .pivot) (a .invnorm) S B) (flagRow (a .branch)) in
-    let done = refusing R finished (projection M (a .pivot) (a .branch) (a .invnorm) S) S (rows .first .result) (looked rows) (c .before .if1 .taken) in
-    let kept = refusing R finished (scratchAfter M (a .pivot) (a .branch) (a .invnorm) S B) B (rows .first .result) (looked rows) (c .before .if1 .taken) in
-    (c .refused .ensures ∙ ap verdictOf (done .0), done .1, kept .1)
+    let m = memoryOf (a .re .now) (a .im .now) (a .scratch-re .now) (a .scratch-im .now) in
+    let R = first (projectionRow M (a .pivot) (a .invnorm) (m .state) (m .scratch)) (flagRow (a .branch)) in
+    let left-memory = projectedMemory M (a .pivot) (a .branch) (a .invnorm) m in
+    let done = refusing R finished left-memory m (rows .first .result) (looked rows) (c .before .if1 .taken) in
+    (c .refused .ensures ∙ ap verdictOf (done .0), done .1)
 
 project-contiguous-requires : tie.Need-project-contiguous-requires
 project-contiguous-requires c κs = search needs
@@ -81,16 +79,14 @@ returns-2 c =
     let rows = tested .before in
     let a = rows .before .before .before .before .before .before .before .before .before .before .before .args in
     let M = activeOf (a .pauli) in
-    let S = stateOf (a .re .now) (a .im .now) in
-    let B = stateOf (a .scratch-re .now) (a .scratch-im .now) in
-    let own = projectionRow M (a .pivot) (a .invnorm) S B in
+    let m = memoryOf (a .re .now) (a .im .now) (a .scratch-re .now) (a .scratch-im .now) in
+    let own = projectionRow M (a .pivot) (a .invnorm) (m .state) (m .scratch) in
     let none : first own (flagRow (a .branch)) ≡ 0 = sym (looked rows) ∙ tested .if1 .left in
     let same = own-row own (a .branch) none in
     let bit = its-bit own (a .branch) none in
     let done = called .project-contiguous .ensures in (
       c .step .ensures ∙ ap verdictOf (done .0 ∙ ap (λ (r : ℕ). answered r finished) same),
-      done .1 .0 ∙ ap₂ (λ (r v : ℕ). left r (projection M (a .pivot) v (a .invnorm) S) S) same bit,
-      done .1 .1 ∙ ap₂ (λ (r v : ℕ). left r (scratchAfter M (a .pivot) v (a .invnorm) S B) B) same bit,
+      done .1 ∙ ap₂ (λ (r v : ℕ). left r (projectedMemory M (a .pivot) v (a .invnorm) m) m) same bit,
     )
 
 pub naribhush-project-spec : {M : Type 1} → statement M

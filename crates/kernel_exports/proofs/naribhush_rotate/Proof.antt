@@ -1,11 +1,11 @@
 use mathlib.Core.Path.{_≡_, sym, ap, ap₂, _∙_}
 use Prim.Native.Nat.{ℕ}
+use Rattle.answers.specs.Outcome.{finished}
 use Rattle.answers.specs.Row.{first, answered, left, refusing}
 use Rattle.activepauli.specs.Active.{activeOf}
 use Rattle.amplitudelaws.specs.Rows.{rotationRow}
 use Rattle.amplitudelaws.specs.State.{stateOf}
 use Rattle.amplitudelaws.specs.Steps.{rotation}
-use Rattle.kernels.specs.Kernel.{finished}
 use Rattle.verdicts.specs.Flag.{flagRow}
 use Rattle.verdicts.specs.Verdict.{verdictOf}
 use Rattle.kernel_exports.proofs.Flagged.{own-row, its-bit}

@@ -1,7 +1,7 @@
 use mathlib.Core.Path.{_≡_}
 use Prim.Native.Nat.{_%_}
 use native.Mathlib.Omega.{arith}
-use Rattle.kernels.specs.Kernel.{actionOf}
+use Rattle.kernels.specs.Kernel.{pauliAction}
 use Rattle.bitlaws.specs.Parity.{overlap}
 use borrow.Author.Needs.{needs}
 use Rattle.kernels.proofs.action.Statement.{statement}
@@ -17,7 +17,7 @@ is-odd-popcount-requires : tie.Need-is-odd-popcount-requires
 is-odd-popcount-requires c κs = search needs
 
 returns : tie.Need-returns
-unfolding actionOf overlap
+unfolding pauliAction overlap
 returns c =
     let factored = c .before .before .before in
     let start = factored .before in

@@ -1,6 +1,6 @@
 use mathlib.Core.Path.{sym, ap, _∙_}
 use borrow.Author.Needs.{needs}
-use Rattle.bits.specs.Highest.{highestTold}
+use Rattle.bits.specs.Highest.{highestBitOf}
 use Rattle.kernels.specs.Kernel.{orZero, highestOrZero}
 use Rattle.kernels.proofs.highest_or_zero.Statement.{statement}
 use Rattle.kernels.proofs.highest_or_zero.Tie as tie
@@ -16,11 +16,11 @@ enum-told c = search needs
 
 returns : tie.Need-returns
 unfolding highestOrZero
-returns c = ap orZero (ap highestTold (sym (c .enum-told .given .1)) ∙ c .before .before .highest-bit .ensures)
+returns c = ap orZero (ap highestBitOf (sym (c .enum-told .given .1)) ∙ c .before .before .highest-bit .ensures)
 
 returns-2 : tie.Need-returns-2
 unfolding highestOrZero
-returns-2 c = ap orZero (ap highestTold (sym (c .before .place .given .1)) ∙ c .before .before .before .highest-bit .ensures)
+returns-2 c = ap orZero (ap highestBitOf (sym (c .before .place .given .1)) ∙ c .before .before .before .highest-bit .ensures)
 
 pub highest-or-zero-spec : {M : Type 1} → statement M
 highest-or-zero-spec =

@@ -4,7 +4,7 @@ use native.Mathlib.Omega.{arith}
 use lib.Ieee.{nanBits}
 use Rattle.bitlaws.specs.Digit.{one-shifted}
 use Rattle.amplitudelaws.specs.Projection.{projectionCoefficient}
-use Rattle.kernels.specs.Kernel.{Action, actionOf, measurementOf}
+use Rattle.kernels.specs.Kernel.{Action, pauliAction, measurementKernel}
 use borrow.Author.Needs.{needs}
 use Rattle.kernels.proofs.measurement_kernel.Statement.{statement}
 use Rattle.kernels.proofs.measurement_kernel.Tie as tie
@@ -29,7 +29,7 @@ scaled-requires : tie.Need-scaled-requires
 scaled-requires c κs = search needs
 
 returns : tie.Need-returns
-unfolding measurementOf projectionCoefficient actionOf
+unfolding measurementKernel projectionCoefficient pauliAction
 returns c =
     let s = c .before .before .before in
     let act = s .before .before .before .action .ensures in

@@ -1,5 +1,5 @@
 use mathlib.Core.Path.{ap, _∙_}
-use Rattle.kernels.specs.Kernel.{Action, actionOf, rotationOf}
+use Rattle.kernels.specs.Kernel.{Action, pauliAction, rotationKernel}
 use Rattle.amplitudelaws.specs.Rotation.{rotationCoefficient}
 use Rattle.kernels.proofs.DefaultPivot.{searched}
 use borrow.Author.Needs.{needs}
@@ -16,7 +16,7 @@ times-requires : tie.Need-times-requires
 times-requires c κs = search needs
 
 returns : tie.Need-returns
-unfolding rotationOf rotationCoefficient actionOf
+unfolding rotationKernel rotationCoefficient pauliAction
 returns c =
     let act = c .before .before .before .before .action .ensures in
     let even = ap (λ (A : Action). A .even) act in

@@ -1,4 +1,4 @@
--- `amplitude`: the 35 bytes of the tail are the two parts and a newline, and the line is the basis and the tail. Assumes nothing.
+-- `amplitude`: the 35 bytes of the tail are the two parts and a newline, and the line is the basis and the tail.
 use mathlib.Core.Path.{_≡_, refl, sym, subst, _∙_}
 use mathlib.Core.List.{List, [], _∷_, _++_}
 use Prim.Native.Nat.{ℕ, _+_}

@@ -1,4 +1,4 @@
--- What is not equal to itself is a NaN, and the kit's bits are asked of no NaN. Assumes nothing.
+-- What is not equal to itself is a NaN, and the kit's bits are asked of no NaN.
 use Rattle.floatlaws.specs.Nan.{no-nan}
 use Rattle.lines.proofs.Digits.{bits-nan, bits-number}
 use Rattle.lines.proofs.bits.Statement.{statement}

@@ -1,4 +1,4 @@
--- `decimal_length`: the digits that `io` writes are the number's. Assumes nothing.
+-- `decimal_length`: the digits that `io` writes are the number's.
 use mathlib.Core.Path.{ap, _∙_}
 use lib.ListN.{length}
 use Rattle.lines.proofs.Digits.{decimal-digits}

@@ -1,4 +1,4 @@
--- `line`: the three texts follow one another from the start of the buffer, and together have at most 8 + 20 + 35 bytes. Assumes nothing.
+-- `line`: the three texts follow one another from the start of the buffer, and together have at most 8 + 20 + 35 bytes.
 use mathlib.Core.Path.{_≡_, ap, _∙_}
 use mathlib.Core.List.{List}
 use Prim.Native.Nat.{ℕ, _+_}

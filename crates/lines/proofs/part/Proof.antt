@@ -1,4 +1,4 @@
--- `part`: a space, and then 16 digits, since the bits are below 2^64. Assumes nothing.
+-- `part`: a space, and then 16 digits, since the bits are below 2^64.
 use mathlib.Core.Path.{_≡_, ap, ap₂, _∙_}
 use mathlib.Core.List.{List, [], _∷_}
 use Prim.Native.Nat.{ℕ}

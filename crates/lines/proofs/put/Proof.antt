@@ -1,4 +1,4 @@
--- `put` stores the text from `at` on, by `bytes::copy` on what stands from there. Assumes nothing.
+-- `put` stores the text from `at` on, by `bytes::copy` on what stands from there.
 use mathlib.Core.Path.{refl, ap, _∙_}
 use mathlib.Core.List.{List, _++_}
 use Prim.Native.Nat.{ℕ, _+_, _-_}

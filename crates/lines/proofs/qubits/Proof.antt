@@ -1,4 +1,4 @@
--- `qubits`: the line as it stands. Assumes nothing.
+-- `qubits`: the line as it stands.
 use Rattle.lines.specs.Lines.{widthLine}
 use borrow.Author.Needs.{needs}
 use Rattle.lines.proofs.qubits.Statement.{statement}

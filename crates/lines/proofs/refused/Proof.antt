@@ -1,4 +1,4 @@
--- `refused`: the line as it stands. Assumes nothing.
+-- `refused`: the line as it stands.
 use Rattle.lines.specs.Lines.{refusalLine}
 use borrow.Author.Needs.{needs}
 use Rattle.lines.proofs.refused.Statement.{statement}

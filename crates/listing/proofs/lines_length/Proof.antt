@@ -1,4 +1,4 @@
--- `lines_length`: the invariant is the length of the lines passed, whatever the state; 4,096 lines of at most 39 bytes fit a usize. Assumes nothing.
+-- `lines_length`: the invariant is the length of the lines passed, whatever the state; 4,096 lines of at most 39 bytes fit a usize.
 use mathlib.Core.Path.{_≡_, refl, ap, _∙_}
 use mathlib.Core.List.{[]}
 use Prim.Native.Nat.{ℕ, _+_, _-_, _*_, _≤_}

@@ -1,4 +1,4 @@
--- `list_run`: the runner's answer, by its cases, is that of the listing's definition at the same start. Assumes nothing.
+-- `list_run`: the runner's answer, by its cases, is that of the listing's definition at the same start.
 use mathlib.Core.Path.{subst}
 use mathlib.Core.List.{List}
 use Prim.Native.Nat.{ℕ}
@@ -42,7 +42,9 @@ list-state-requires c κs =
     let given = c .before .before .before .before .answer .given in
     let few = narrow _ _ (given .0 .0) _ _ (ran .ensures .0) (given .1) in
     let room = enough _ _ (given .0 .0) _ _ (ran .ensures .0) (given .1) in
-    (few, room (ran .last .1 .0) (c .before .before .before .before .before .before .before .before .before .re2 .given), room (ran .last .1 .1 .0) (c .before .before .before .before .before .before .before .before .im2 .given))
+    let real = room (ran .last .1 .0) (c .before .before .before .before .before .before .before .before .before .re2 .given) in
+    let imaginary = room (ran .last .1 .1 .0) (c .before .before .before .before .before .before .before .before .im2 .given) in
+    (few, (real, imaginary))
 
 enum-known-answer-2 : tie.Need-enum-known-answer-2
 enum-known-answer-2 c = search needs

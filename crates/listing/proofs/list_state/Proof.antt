@@ -1,4 +1,4 @@
--- `list_state`: the length first, then the width's line and the others behind it. Assumes nothing.
+-- `list_state`: the length first, then the width's line and the others behind it.
 use native.Mathlib.Omega.{arith}
 use Rattle.amplitudelaws.specs.State.{stateOf}
 use Rattle.bitlaws.specs.Digit.{one-shifted}
@@ -54,8 +54,11 @@ put-lines-requires c κs =
     let digits = c .before .before .before .before .before .before .before .decimal-length in
     let count = c .before .before .before .before .before .before .lines-length in
     let dim = one-shifted 64 width (omega (arith, s .pre .0)) in
-    let qubits = c .before .before .before .qubits in
-    ((omega (arith, dim, s .pre .1), omega (arith, dim, s .pre .2)), rest-fits S width _ (digits .result) (count .result) dim (digits .ensures) (count .ensures S) (s .args .out .now) (c .before .before .before .before .before .if1 .left) (qubits .result) (qubits .last .1 .0) (qubits .ensures))
+    let qubits = c .before .before .before .qubits in (
+      (omega (arith, dim, s .pre .1 .0), omega (arith, dim, s .pre .1 .1)),
+      rest-fits S width _ (digits .result) (count .result) dim (digits .ensures) (count .ensures S) (s .args .out .now)
+          (c .before .before .before .before .before .if1 .left) (qubits .result) (qubits .last .1 .0) (qubits .ensures),
+    )
 
 same-length : tie.Need-same-length
 same-length c = search needs

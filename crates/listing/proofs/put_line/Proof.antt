@@ -1,4 +1,4 @@
--- `put_line`: the line is written to the start of what stands from `at` on, where it fits and is not refused. Assumes nothing.
+-- `put_line`: the line is written to the start of what stands from `at` on, where it fits and is not refused.
 use mathlib.Core.Path.{_≡_, ap}
 use mathlib.Core.List.{List, _++_}
 use Prim.Native.Nat.{ℕ, _+_, _-_, _≤_}

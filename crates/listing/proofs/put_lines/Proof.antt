@@ -1,4 +1,4 @@
--- `put_lines`: the invariant is that the lines of the bases passed stand from `at` on, and end at `end`. Assumes nothing.
+-- `put_lines`: the invariant is that the lines of the bases passed stand from `at` on, and end at `end`.
 use mathlib.Core.Path.{_≡_, refl, ap, _∙_}
 use mathlib.Core.List.{List}
 use Prim.Native.Nat.{ℕ, suc, _+_, _-_, _≤_, _<_}

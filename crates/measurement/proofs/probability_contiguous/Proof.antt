@@ -8,11 +8,12 @@ use Rattle.bitlaws.specs.Digit.{bitOf}
 use Rattle.activepauli.specs.Active.{activeOf}
 use Rattle.amplitudelaws.specs.Binary.{clamped}
 use Rattle.amplitudelaws.specs.Rows.{measurementRow}
-use Rattle.amplitudelaws.specs.State.{stateOf}
+use Rattle.amplitudelaws.specs.State.{stateOf, HasRoom}
 use Rattle.amplitudelaws.specs.Steps.{probability}
-use Rattle.kernels.specs.Kernel.{MeasurementKernel, actionOf, measurementMeant, measurementOf, measurementTold}
-use Rattle.measurement.specs.Measured.{Measurable, Holding}
-use Rattle.measurement.proofs.Passing.{room-holding, row-measurable, probability-refused, probability-roomless, probability-passed, kernel-probability}
+use Rattle.kernels.specs.Kernel.{MeasurementKernel, pauliAction, measurementKernelOf, measurementKernel, measurementKernelAnswerOf}
+use Rattle.measurement.specs.Measured.{Projectable}
+use Rattle.measurement.proofs.Passing.{room-is, row-projectable}
+use Rattle.measurement.proofs.Passing.{probability-refused, probability-roomless, probability-passed, kernel-probability}
 use borrow.Author.Needs.{needs}
 use Rattle.measurement.proofs.probability_contiguous.Statement.{statement}
 use Rattle.measurement.proofs.probability_contiguous.Tie as tie
@@ -31,8 +32,8 @@ has-room-requires c κs = search needs
 
 -- the kernel that was made is the Pauli's
 accepts : (c : tie.After-kernel) → let a = c .before .before .before .before .before .args in
-    (measurementRow (activeOf (a .pauli)) (a .pivot) false ≡ 0) × (measurementMeant (c .kernel .given .0 .0) ≡ measurementOf (activeOf (a .pauli)) (a .pivot))
-accepts c = accepted-row _ _ _ (ap measurementTold (sym (c .kernel .given .1)) ∙ c .before .before .with-pivot .ensures)
+    (measurementRow (activeOf (a .pauli)) (a .pivot) false ≡ 0) × (measurementKernelOf (c .kernel .given .0 .0) ≡ measurementKernel (activeOf (a .pauli)) (a .pivot))
+accepts c = accepted-row _ _ _ (ap measurementKernelAnswerOf (sym (c .kernel .given .1)) ∙ c .before .before .with-pivot .ensures)
 
 returns : tie.Need-returns
 returns c =
@@ -44,15 +45,15 @@ returns c =
     rw (probability-roomless M (a .pivot) S (accepts taken .0) none) (sym (answered-some 13 _ (lit< tt)))
 
 mass-requires : tie.Need-mass-requires
-unfolding measurementOf actionOf
+unfolding measurementKernel pauliAction
 mass-requires c κs =
     let taken = c .before .before .before in
     let a = taken .before .before .before .before .before .args in
     let M = activeOf (a .pauli) in
     let S = stateOf (a .re .now) (a .im .now) in
     let enough = sym (c .before .has-room .ensures) ∙ not-false (c .before .has-room .result) (c .if1 .left) in
-    subst (λ (K : MeasurementKernel). Measurable K × Holding (K .action .n) S) (sym (accepts taken .1))
-    (row-measurable M (a .pivot) false (accepts taken .0), room-holding (M .n) S enough)
+    subst (λ (K : MeasurementKernel). Projectable K × HasRoom (K .action .n) S) (sym (accepts taken .1))
+    (row-projectable M (a .pivot) (accepts taken .0), room-is (M .n) S enough)
 
 clamped-requires : tie.Need-clamped-requires
 clamped-requires c κs = search needs
@@ -60,7 +61,7 @@ clamped-requires c κs = search needs
 returns-2 : tie.Need-returns-2
 returns-2 c =
     let a = c .before .before .before .before .before .before .args in
-    probability-refused (activeOf (a .pauli)) (a .pivot) _ _ _ (ap measurementTold (sym (c .before .row .given .1)) ∙ c .before .before .before .with-pivot .ensures)
+    probability-refused (activeOf (a .pauli)) (a .pivot) _ _ _ (ap measurementKernelAnswerOf (sym (c .before .row .given .1)) ∙ c .before .before .before .with-pivot .ensures)
 
 returns-3 : tie.Need-returns-3
 returns-3 c =

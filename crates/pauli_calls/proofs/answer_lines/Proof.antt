@@ -1,5 +1,5 @@
 -- `pauli_calls::answer_lines` is safe and ends. The loop's invariant: a line starts at or before `i`. The measure is what is left
--- of the input. Assumes nothing.
+-- of the input.
 use Prim.Native.Nat.{_≤_, _-_}
 use native.Mathlib.Omega.{arith}
 use mathlib.Core.Logic.{⊎-elim}

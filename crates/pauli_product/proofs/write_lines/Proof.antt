@@ -1,5 +1,4 @@
 -- `pauli_product::write_lines` is safe and ends. Nothing has to hold from turn to turn; the measure is what is left of the input.
--- Assumes nothing.
 use Prim.Native.Nat.{_-_}
 use native.Mathlib.Omega.{arith}
 use lib.ListN.{length}

@@ -8,7 +8,7 @@ use lib.ListN.{length, getD}
 use mathlib.Core.Option.{none, some}
 use Rattle.answers.specs.Answer.{refuse}
 use Rattle.paulilaws.specs.Pauli.{Pauli}
-use Rattle.paulis.specs.Strings.{pauliOf, letterTold, letterMeant}
+use Rattle.paulis.specs.Strings.{pauliOf, letterAnswerOf, pauliLetterOf}
 use Rattle.paulitext.specs.Calls.{readCall}
 use Rattle.paulitext.proofs.Walk.{Reached, letter-some, letter-none, reached-start, reached-end, reached-none, reached-next, made-identity, made-set}
 use Rattle.paulitext.specs.Text.{letterOfByte}
@@ -59,7 +59,7 @@ returns-2 c =
     let l = c .before .before .before .before .before .before .loop in
     let ops = c .before .before .before .before .before .before .before .before .before .before .before .args .ops .now in
     let short = c .before .before .before .before .before .before .before .before .before .if1 .left in
-    let bad : letterOfByte (getD ops (l .q) 0) ≡ none = letter-none (ap letterTold (sym (c .before .enum-told .given .1)) ∙ c .before .before .before .letter .ensures) in
+    let bad : letterOfByte (getD ops (l .q) 0) ≡ none = letter-none (ap letterAnswerOf (sym (c .before .enum-told .given .1)) ∙ c .before .before .before .letter .ensures) in
     rw (le-ltb 256 (length ops) short, reached-none ops (l .q) (pauliOf (l .pauli)) (l .inv) (c .before .before .before .before .before .loop-test .taken) bad) (c .refused-at .ensures)
 
 set-requires : tie.Need-set-requires Inv-loop μ-loop
@@ -77,9 +77,9 @@ loop-again c =
     let ops = c .before .before .before .before .before .before .before .before .before .before .before .before .before .args .ops .now in
     let read = c .before .before .before .letter2 .given in
     let below : l .q < length ops = c .before .before .before .before .before .before .before .loop-test .taken in
-    let good : letterOfByte (getD ops (l .q) 0) ≡ some (letterMeant (read .0 .0)) = letter-some (ap letterTold (sym (read .1)) ∙ c .before .before .before .before .before .letter .ensures) in
-    let next = made-set (c .before .set .result) (pauliOf (l .pauli)) (l .q) (letterMeant (read .0 .0)) (l .inv .admitted) (omega (arith, l .inv .width)) (c .before .set .ensures) in
-    subst (λ (P : Pauli). Reached ops (l .q + 1) P) (sym next) (reached-next ops (l .q) (pauliOf (l .pauli)) (l .inv) below (letterMeant (read .0 .0)) good)
+    let good : letterOfByte (getD ops (l .q) 0) ≡ some (pauliLetterOf (read .0 .0)) = letter-some (ap letterAnswerOf (sym (read .1)) ∙ c .before .before .before .before .before .letter .ensures) in
+    let next = made-set (c .before .set .result) (pauliOf (l .pauli)) (l .q) (pauliLetterOf (read .0 .0)) (l .inv .admitted) (omega (arith, l .inv .width)) (c .before .set .ensures) in
+    subst (λ (P : Pauli). Reached ops (l .q + 1) P) (sym next) (reached-next ops (l .q) (pauliOf (l .pauli)) (l .inv) below (pauliLetterOf (read .0 .0)) good)
 
 done-requires : tie.Need-done-requires Inv-loop μ-loop
 done-requires c κs = search needs

@@ -1,11 +1,11 @@
 use mathlib.Core.Path.{sym, _∙_}
 use Prim.Native.Nat.{suc}
+use Rattle.answers.specs.Outcome.{finished}
 use Rattle.answers.specs.Row.{first, first-passed, refusing, passing}
 use Rattle.amplitudelaws.specs.Passed.{promoted-width-passed, room-passed}
 use Rattle.amplitudelaws.specs.Rows.{promotedWidthRow, unitRow, roomRow, promotionRow}
 use Rattle.amplitudelaws.specs.State.{stateOf, room}
 use Rattle.amplitudelaws.specs.Steps.{promotion}
-use Rattle.kernels.specs.Kernel.{finished}
 use borrow.Author.Needs.{needs}
 use Rattle.promotion.proofs.promote_contiguous_active.Statement.{statement}
 use Rattle.promotion.proofs.promote_contiguous_active.Tie as tie
@@ -28,7 +28,7 @@ promote-requires c κs =
     let S = stateOf (a .re .now) (a .im .now) in
     let wide = first-passed (promotedWidthRow n) (first (unitRow (a .c) (a .q)) (roomRow (room (suc n) S))) (sym (looked .refusal .ensures) ∙ c .before .before .if1 .left) in
     let lengths = room-passed (suc n) S (first-passed (unitRow (a .c) (a .q)) (roomRow (room (suc n) S)) (wide .1) .1) in
-    (promoted-width-passed n (wide .0), lengths .0, lengths .1)
+    (promoted-width-passed n (wide .0), lengths)
 
 same-length : tie.Need-same-length
 same-length c = search needs

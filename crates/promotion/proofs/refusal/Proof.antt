@@ -10,28 +10,20 @@ use borrow.Author.Needs.{needs}
 use Rattle.promotion.proofs.refusal.Statement.{statement}
 use Rattle.promotion.proofs.refusal.Tie as tie
 
-row-requires : tie.Need-row-requires
-row-requires c κs = search needs
-
-row-requires-2 : tie.Need-row-requires-2
-row-requires-2 c κs = search needs
-
-first-requires : tie.Need-first-requires
-first-requires c κs = search needs
+promoted-width-row-requires : tie.Need-promoted-width-row-requires
+promoted-width-row-requires c κs = search needs
 
 returns : tie.Need-returns
-unfolding promotionRow promotedWidthRow
+unfolding promotionRow
 returns c =
-    let a = c .before .before .before .before .before .before .args in
-    let wide = c .before .first .ensures ∙ ap₂ first (c .before .before .before .row .ensures) (c .before .before .row2 .ensures) in
+    let a = c .before .before .before .before .args in
+    let wide = c .before .promoted-width-row .ensures in
     wide ∙ sym (first-some (promotedWidthRow (a .nqubits)) _ (some-row _ (λ z. c .if1 .taken (wide ∙ z))))
 
 add-has-room : tie.Need-add-has-room
-unfolding promotedWidthRow
 add-has-room c =
-    let a = c .before .before .before .before .before .before .args in
-    let wide = c .before .first .ensures ∙ ap₂ first (c .before .before .before .row .ensures) (c .before .before .row2 .ensures) in
-    omega (arith, promoted-width-passed (a .nqubits) (sym wide ∙ c .if1 .left))
+    let a = c .before .before .before .before .args in
+    omega (arith, promoted-width-passed (a .nqubits) (sym (c .before .promoted-width-row .ensures) ∙ c .if1 .left))
 
 has-room-requires : tie.Need-has-room-requires
 has-room-requires c κs = search needs
@@ -42,33 +34,30 @@ unit-row-requires c κs = search needs
 room-row-requires : tie.Need-room-row-requires
 room-row-requires c κs = search needs
 
-first-requires-2 : tie.Need-first-requires-2
-first-requires-2 c κs = search needs
+first-requires : tie.Need-first-requires
+first-requires c κs = search needs
 
 returns-2 : tie.Need-returns-2
-unfolding promotionRow promotedWidthRow
+unfolding promotionRow
 returns-2 c =
     let d = c .before .before .before .before .before in
-    let a = d .before .before .before .before .before .args in
+    let a = d .before .before .before .args in
     let n = a .nqubits in
     let S = stateOf (a .re .now) (a .im .now) in
-    let wide = d .first .ensures ∙ ap₂ first (d .before .before .row .ensures) (d .before .row2 .ensures) in
     let enough = c .before .before .before .has-room .ensures ∙ ap (λ (m : ℕ). room m S) (add-one n) in
-    c .first2 .ensures
+    c .first .ensures
     ∙ ap₂ first (c .before .before .unit-row .ensures) (c .before .room-row .ensures ∙ ap roomRow enough)
-    ∙ sym (first-none (promotedWidthRow n) _ (sym wide ∙ c .before .before .before .before .if1 .left))
+    ∙ sym (first-none (promotedWidthRow n) _ (sym (d .promoted-width-row .ensures) ∙ c .before .before .before .before .if1 .left))
 
 pub refusal-spec : {M : Type 1} → statement M
 refusal-spec =
     tie.close
     (tie.spec
-    row-requires
-    row-requires-2
-    first-requires
+    promoted-width-row-requires
     returns
     add-has-room
     has-room-requires
     unit-row-requires
     room-row-requires
-    first-requires-2
+    first-requires
     returns-2)

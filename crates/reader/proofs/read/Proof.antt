@@ -1,4 +1,4 @@
--- `reader::read` meets its contract: the run's length, the cursor's width, then the field. Assumes nothing.
+-- `reader::read` meets its contract: the run's length, the cursor's width, then the field.
 use mathlib.Core.Path.{_≡_, sym, ap, _∙_}
 use mathlib.Core.List.{List}
 use mathlib.Core.Option.{Option, none}
@@ -10,7 +10,7 @@ use Rattle.runlaws.specs.Field.{Field, mostBytes}
 use Rattle.runlaws.specs.Reading.{Cursor, readField, readAt}
 use Rattle.runlaws.specs.Reading.Read.{refusedRead}
 use Rattle.runlaws.specs.Fields.{read-within}
-use Rattle.fields.specs.Told.{fieldIn, headTold}
+use Rattle.fields.specs.Meaning.{fieldIn, fieldAnswerOf}
 use Rattle.fields.proofs.Fields.{field-in, field-of, field-none}
 use borrow.Author.Needs.{needs}
 use Rattle.reader.proofs.read.Statement.{statement}
@@ -48,7 +48,7 @@ returns-3 : tie.Need-returns-3
 unfolding readField
 returns-3 c =
     let asked = c .before .before in
-    let cut = field-none _ _ (ap headTold (sym (c .enum-told .given .1)) ∙ asked .field .ensures) in
+    let cut = field-none _ _ (ap fieldAnswerOf (sym (c .enum-told .given .1)) ∙ asked .field .ensures) in
     field-read _ _ _ (asked .before .before .before .if1 .left) (asked .before .if2 .left) none cut
 
 body-requires : tie.Need-body-requires
@@ -61,7 +61,7 @@ returns-4 : tie.Need-returns-4
 returns-4 c =
     let matched = c .before .before .before in
     let asked = matched .before .before in
-    let whole = field-of _ _ _ _ _ (ap headTold (sym (matched .tag .given .1)) ∙ asked .field .ensures) (c .before .body .ensures) in
+    let whole = field-of _ _ _ _ _ (ap fieldAnswerOf (sym (matched .tag .given .1)) ∙ asked .field .ensures) (c .before .body .ensures) in
     c .read-field .ensures ∙ field-read _ _ _ (asked .before .before .before .if1 .left) (asked .before .if2 .left) _ whole
 
 pub read-spec : {M : Type 1} → statement M

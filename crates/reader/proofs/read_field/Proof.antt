@@ -1,45 +1,49 @@
 use lib.Dec.{eqb}
 use borrow.Author.Tests.{eqb-true}
 use Rattle.paulilaws.specs.Fitting.{both-right}
-use Rattle.framelaws.specs.Rows.{stepRow}
 use Rattle.runlaws.specs.Reading.{decoded, judged, readField}
 use Rattle.reader.proofs.read_field.Statement.{statement}
 use Rattle.reader.proofs.read_field.Tie as tie
 
 returns : tie.Need-returns
-unfolding readField judged decoded stepRow
+unfolding readField
 returns c = rw (c .if1 .taken)
 
 rotation-requires : tie.Need-rotation-requires
 rotation-requires c κs = eqb-true _ _ (both-right (eqb (c .before .before .before .args .tag) 2) _ (c .if2 .taken))
 
 returns-2 : tie.Need-returns-2
-unfolding readField judged decoded stepRow
-returns-2 c = rw (c .before .before .if1 .left, c .before .if2 .taken) (c .rotation .ensures)
+unfolding readField decoded
+returns-2 c = rw (c .before .before .if1 .left, c .before .if2 .taken) (c .rotation .ensures _)
 
 promotion-requires : tie.Need-promotion-requires
 promotion-requires c κs = eqb-true _ _ (both-right (eqb (c .before .before .before .before .args .tag) 3) _ (c .if3 .taken))
 
 returns-3 : tie.Need-returns-3
-unfolding readField judged decoded stepRow
+unfolding readField decoded
 returns-3 c = rw (c .before .before .before .if1 .left, c .before .before .if2 .left, c .before .if3 .taken) (c .promotion .ensures)
 
 projection-requires : tie.Need-projection-requires
 projection-requires c κs = eqb-true _ _ (both-right (eqb (c .before .before .before .before .before .args .tag) 4) _ (c .if4 .taken))
 
 returns-4 : tie.Need-returns-4
-unfolding readField judged decoded stepRow
-returns-4 c = rw (c .before .before .before .before .if1 .left, c .before .before .before .if2 .left, c .before .before .if3 .left, c .before .if4 .taken) (c .projection .ensures)
+unfolding readField decoded
+returns-4 c =
+    let second = c .before .before .before in
+    rw (second .before .if1 .left, second .if2 .left, c .before .before .if3 .left, c .before .if4 .taken) (c .projection .ensures _)
 
 correction-requires : tie.Need-correction-requires
 correction-requires c κs = eqb-true _ _ (both-right (eqb (c .before .before .before .before .before .before .args .tag) 5) _ (c .if5 .taken))
 
 returns-5 : tie.Need-returns-5
-unfolding readField judged decoded stepRow
-returns-5 c = rw (c .before .before .before .before .before .if1 .left, c .before .before .before .before .if2 .left, c .before .before .before .if3 .left, c .before .before .if4 .left, c .before .if5 .taken) (c .correction .ensures)
+unfolding readField decoded
+returns-5 c =
+    let third = c .before .before .before in
+    rw (third .before .before .if1 .left, third .before .if2 .left, third .if3 .left, c .before .before .if4 .left, c .before .if5 .taken)
+    (c .correction .ensures _)
 
 returns-6 : tie.Need-returns-6
-unfolding readField judged decoded stepRow
+unfolding readField judged decoded
 returns-6 c = rw (c .before .before .before .before .if1 .left, c .before .before .before .if2 .left, c .before .before .if3 .left, c .before .if4 .left, c .if5 .left)
 
 pub read-field-spec : {M : Type 1} → statement M

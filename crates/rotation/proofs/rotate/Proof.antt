@@ -21,7 +21,7 @@ rotate-uniform-imag-pairs-requires : tie.Need-rotate-uniform-imag-pairs-requires
 rotate-uniform-imag-pairs-requires c κs =
     let tested = c .before .before .before in
     let pre = tested .before .before .before .before .pre in
-    (pre .0 .pivot (tested .if1 .left), pre .0 .narrow, pre .1, pre .2)
+    (pre .0 .pivot (tested .if1 .left), pre .0 .narrow, pre .1)
 
 same-length-3 : tie.Need-same-length-3
 same-length-3 c = search needs
@@ -40,7 +40,7 @@ rotate-pairs-requires : tie.Need-rotate-pairs-requires
 rotate-pairs-requires c κs =
     let tested = c .before .before .before in
     let pre = tested .before .before .before .before .pre in
-    (pre .0 .pivot (tested .if1 .left), pre .0 .narrow, pre .1, pre .2)
+    (pre .0 .pivot (tested .if1 .left), pre .0 .narrow, pre .1)
 
 same-length-5 : tie.Need-same-length-5
 same-length-5 c = search needs

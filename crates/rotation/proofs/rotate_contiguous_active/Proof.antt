@@ -1,13 +1,14 @@
 use mathlib.Core.Path.{_≡_, sym, ap, ap₂, _∙_}
 use Prim.Native.Nat.{ℕ}
 use Rattle.answers.specs.Answer.Answer.{accepted}
+use Rattle.answers.specs.Outcome.{finished}
 use Rattle.answers.specs.Row.{answered, left, answered-some, left-some}
 use Rattle.bitlaws.specs.Digit.{bitOf}
 use Rattle.amplitudelaws.specs.Rows.{rotationKernelRow}
 use Rattle.amplitudelaws.specs.State.{State, stateOf}
 use Rattle.activepauli.specs.Active.{activeOf}
-use Rattle.kernels.specs.Kernel.{rotationTold, rotationMeant, rotationOf, finished}
-use Rattle.rotation.proofs.Made.{kernel-refused, kernel-ready, kernel-row, kernel-rotates}
+use Rattle.kernels.specs.Kernel.{rotationKernelAnswerOf, rotationKernelOf, rotationKernel}
+use Rattle.rotation.proofs.Made.{kernel-refused, kernel-rotatable, kernel-row, kernel-rotates}
 use borrow.Author.Needs.{needs}
 use Rattle.rotation.proofs.rotate_contiguous_active.Statement.{statement}
 use Rattle.rotation.proofs.rotate_contiguous_active.Tie as tie
@@ -22,14 +23,14 @@ enum-known-kernel : tie.Need-enum-known-kernel
 enum-known-kernel c = search needs
 
 made : (c : tie.After-kernel) → let a = c .before .before .before .before .before .args in
-    accepted (rotationMeant (c .kernel .given .0 .0)) ≡ answered (rotationKernelRow (activeOf (a .pauli)) (a .c) (a .s)) (rotationOf (activeOf (a .pauli)) (a .c) (a .s))
-made c = ap rotationTold (sym (c .kernel .given .1)) ∙ c .before .before .new .ensures
+    accepted (rotationKernelOf (c .kernel .given .0 .0)) ≡ answered (rotationKernelRow (activeOf (a .pauli)) (a .c) (a .s)) (rotationKernel (activeOf (a .pauli)) (a .c) (a .s))
+made c = ap rotationKernelAnswerOf (sym (c .kernel .given .1)) ∙ c .before .before .new .ensures
 
 rotate-in-room-requires : tie.Need-rotate-in-room-requires
 rotate-in-room-requires c κs =
     let matched = c .before .before .before in
     let a = matched .before .before .before .before .before .args in
-    kernel-ready (activeOf (a .pauli)) (a .c) (a .s) (stateOf (a .re .now) (a .im .now)) _ (made matched)
+    kernel-rotatable (activeOf (a .pauli)) (a .c) (a .s) (stateOf (a .re .now) (a .im .now)) _ (made matched)
 
 returns : tie.Need-returns
 returns c =
@@ -37,7 +38,7 @@ returns c =
     let asked = matched .before .before in
     let a = asked .before .before .before .args in
     let row = matched .row .given .0 .0 in
-    let told = kernel-refused (activeOf (a .pauli)) (a .c) (a .s) (stateOf (a .re .now) (a .im .now)) row (ap rotationTold (sym (matched .row .given .1)) ∙ asked .new .ensures) in
+    let told = kernel-refused (activeOf (a .pauli)) (a .c) (a .s) (stateOf (a .re .now) (a .im .now)) row (ap rotationKernelAnswerOf (sym (matched .row .given .1)) ∙ asked .new .ensures) in
     rw (← told .0) (sym (answered-some row _ (told .1)), sym (left-some row _ _ (told .1)))
 
 same-length : tie.Need-same-length
@@ -52,7 +53,7 @@ returns-2 c =
     let matched = called .before .before .before .before in
     let a = matched .before .before .before .before .before .args in
     let S = stateOf (a .re .now) (a .im .now) in
-    let kernel = rotationMeant (matched .kernel .given .0 .0) in
+    let kernel = rotationKernelOf (matched .kernel .given .0 .0) in
     let row = kernel-row (activeOf (a .pauli)) (a .c) (a .s) S kernel (made matched) in (
       called .rotate-in-room .ensures .0 ∙ ap (λ (r : ℕ). answered r finished) row,
       called .rotate-in-room .ensures .1

@@ -26,7 +26,7 @@ rotate-requires c κs =
     let start = tested .before .before .before .before .before .before .before in
     let a = start .args in
     let enough = room-passed (a .kernel .action .nqubits) (stateOf (a .re .now) (a .im .now)) (sym (row-told (tested .before)) ∙ tested .if1 .left) in
-    (start .pre, enough .0, enough .1)
+    (start .pre, enough)
 
 same-length : tie.Need-same-length
 same-length c = search needs

@@ -1,7 +1,7 @@
 use mathlib.Core.Path.{sym, ap, ap₂, _∙_}
 use mathlib.Core.Bool.{Bool, not}
 use Rattle.answers.specs.Row.{row, first}
-use Rattle.activepauli.specs.Active.{activeOf, bitTold}
+use Rattle.activepauli.specs.Active.{activeOf, activeBitAnswerOf}
 use Rattle.activepauli.specs.Accepted.{squares-answered, squares-refused}
 use Rattle.amplitudelaws.specs.Rows.{widthRow, hermitianRow}
 use borrow.Author.Needs.{needs}
@@ -21,7 +21,7 @@ returns : tie.Need-returns
 unfolding hermitianRow widthRow row first
 returns c =
     let asked = c .before .before in
-    rw (squares-refused (activeOf (asked .before .args .pauli)) _ (ap bitTold (sym (c .enum-told .given .1)) ∙ asked .is-hermitian .ensures))
+    rw (squares-refused (activeOf (asked .before .args .pauli)) _ (ap activeBitAnswerOf (sym (c .enum-told .given .1)) ∙ asked .is-hermitian .ensures))
 
 width-row-requires : tie.Need-width-row-requires
 width-row-requires c κs = search needs
@@ -38,7 +38,7 @@ returns-2 c =
     let matched = c .before .before .before .before in
     let asked = matched .before .before in
     let is =
-    squares-answered (activeOf (asked .before .args .pauli)) _ (ap bitTold (sym (matched .hermitian .given .1)) ∙ asked .is-hermitian .ensures) in
+    squares-answered (activeOf (asked .before .args .pauli)) _ (ap activeBitAnswerOf (sym (matched .hermitian .given .1)) ∙ asked .is-hermitian .ensures) in
     let seven = c .before .row .ensures ∙ ap (λ (t : Bool). row (not t) 7 0) is in
     c .first .ensures ∙ ap₂ first (c .before .before .width-row .ensures) seven
 

@@ -1,4 +1,4 @@
--- `run_calls::answer_lines` is safe and ends. The measure is what is left of the input. Assumes nothing.
+-- `run_calls::answer_lines` is safe and ends. The measure is what is left of the input.
 use Prim.Native.Nat.{_-_}
 use native.Mathlib.Omega.{arith}
 use lib.ListN.{length}

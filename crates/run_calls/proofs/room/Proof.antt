@@ -1,4 +1,4 @@
--- `run_calls::room` meets its contract, by a lemma: the search would count the bytes one by one. Assumes nothing.
+-- `run_calls::room` meets its contract, by a lemma: the search would count the bytes one by one.
 use Prim.Native.Nat.{ℕ}
 use mathlib.Core.Path.{sym}
 use lib.ListN.{length-replicate}

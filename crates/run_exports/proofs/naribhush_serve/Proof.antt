@@ -24,7 +24,7 @@ same-length-4 c = search needs
 returns : tie.Need-returns
 returns c =
     let done = c .before .before .before .before .before .before .before .before .before .before .serve .ensures in
-    (seen-as (c .ending .ensures) (done .0), (done .1 .0, done .1 .1))
+    ((seen-as (c .ending .ensures) (done .0 .0), done .0 .1), done .1)
 
 pub naribhush-serve-spec : {M : Type 1} → statement M
 naribhush-serve-spec =

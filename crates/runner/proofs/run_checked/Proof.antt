@@ -1,7 +1,7 @@
 use mathlib.Core.Path.{sym, _∙_}
-use Rattle.framelaws.specs.Memory.{memoryOf}
+use Rattle.amplitudelaws.specs.Lent.{lentMemory}
 use Rattle.runlaws.specs.Calls.{memoryRow}
-use Rattle.checker.specs.Told.{surveyMeant}
+use Rattle.checker.specs.Meaning.{surveyFieldsOf}
 use Rattle.runner.proofs.Outcomes.{runs-short, runs-ready, runs-finished}
 use borrow.Author.Needs.{needs}
 use Rattle.runner.proofs.run_checked.Statement.{statement}
@@ -28,7 +28,8 @@ returns c =
     let looked = c .before in
     let start = looked .before .before .before .before .before .before .before .before .before .before in
     let a = start .args in
-    runs-short (a .limit) (a .run .now) (memoryOf (a .re .now) (a .im .now) (a .scratch-re .now) (a .scratch-im .now)) (surveyMeant (a .survey)) (start .pre) _ (looked .memory-row .ensures) (c .if1 .taken)
+    let m = lentMemory (a .re) (a .im) (a .scratch-re) (a .scratch-im) in
+    runs-short (a .limit) (a .run .now) m (a .start) (surveyFieldsOf (a .survey)) (start .pre) _ (looked .memory-row .ensures) (c .if1 .taken)
 
 run-steps-requires : tie.Need-run-steps-requires
 unfolding memoryRow
@@ -37,7 +38,9 @@ run-steps-requires c κs =
     let looked = passed .before in
     let start = looked .before .before .before .before .before .before .before .before .before .before in
     let a = start .args in
-    runs-ready (a .limit) (a .run .now) (memoryOf (a .re .now) (a .im .now) (a .scratch-re .now) (a .scratch-im .now)) (surveyMeant (a .survey)) (start .pre) (sym (looked .memory-row .ensures) ∙ passed .if1 .left)
+    let m = lentMemory (a .re) (a .im) (a .scratch-re) (a .scratch-im) in
+    runs-ready (a .limit) (a .run .now) m (a .start) (surveyFieldsOf (a .survey)) (start .pre)
+    (sym (looked .memory-row .ensures) ∙ passed .if1 .left)
 
 same-length-5 : tie.Need-same-length-5
 same-length-5 c = search needs
@@ -59,7 +62,9 @@ returns-2 c =
     let looked = passed .before in
     let start = looked .before .before .before .before .before .before .before .before .before .before in
     let a = start .args in
-    runs-finished (a .limit) (a .run .now) (memoryOf (a .re .now) (a .im .now) (a .scratch-re .now) (a .scratch-im .now)) (surveyMeant (a .survey)) (start .pre) (sym (looked .memory-row .ensures) ∙ passed .if1 .left) (called .run-steps .ensures)
+    let m = lentMemory (a .re) (a .im) (a .scratch-re) (a .scratch-im) in
+    runs-finished (a .limit) (a .run .now) m (a .start) (surveyFieldsOf (a .survey)) (start .pre)
+    (sym (looked .memory-row .ensures) ∙ passed .if1 .left) (called .run-steps .ensures)
 
 pub run-checked-spec : {M : Type 1} → statement M
 run-checked-spec =

@@ -6,9 +6,8 @@ use Rattle.framelaws.specs.Kept.{SameSizes}
 use Rattle.runlaws.specs.Reading.{readAt}
 use Rattle.runlaws.specs.Reading.Read.{stepRead}
 use Rattle.runlaws.specs.Calls.{running}
-use Rattle.steps.specs.Meant.{cursorOf, stepOf, readTold}
-use Rattle.fields.proofs.Started.{started, unstarted}
-use Rattle.runner.proofs.Underway.{Underway, no-start, lent-sizes, underway-outset, underway-ready, underway-step, underway-less, underway-end}
+use Rattle.steps.specs.Meaning.{cursorOf, stepOf, readOf}
+use Rattle.runner.proofs.Underway.{Underway, lent-sizes, underway-outset, underway-ready, underway-step, underway-less, underway-end}
 use borrow.Author.Needs.{needs}
 use Rattle.runner.proofs.run_steps.Statement.{statement}
 use Rattle.runner.proofs.run_steps.Tie as tie
@@ -21,24 +20,8 @@ abbrev μ-loop : tie.MeasureT-loop
 μ-loop run re₀ im₀ scratch-re₀ scratch-im₀ limit width cursor₀ re im scratch-re scratch-im cursor =
     length run - cursor .at
 
-start-requires : tie.Need-start-requires Inv-loop μ-loop
-start-requires c κs = search needs
-
-enum-known-width : tie.Need-enum-known-width Inv-loop μ-loop
-enum-known-width c = search needs
-
-enum-told : tie.Need-enum-told Inv-loop μ-loop
-enum-told c = search needs
-
-returns : tie.Need-returns Inv-loop μ-loop
-returns c =
-    let asked = c .before .before in
-    absurd (no-start (asked .before .before .before .before .before .before .pre) (unstarted _ _ (asked .start .ensures) (c .enum-told .given .1)))
-
 loop-holds : tie.Need-loop-holds Inv-loop μ-loop
-loop-holds c =
-    let asked = c .before .before .before in
-    underway-outset (asked .before .before .before .before .before .before .pre) _ (started _ _ (asked .start .ensures) (c .before .width .given .1) .1)
+loop-holds c = underway-outset (c .before .before .before .before .before .pre)
 
 read-requires : tie.Need-read-requires Inv-loop μ-loop
 read-requires c κs = search needs
@@ -48,9 +31,9 @@ enum-known-got c = search needs
 
 -- what was read is the step
 step-got : (c : tie.After-got Inv-loop μ-loop) → let at-loop = c .before .before .before in
-    let a = at-loop .before .before .before .before .before .before .before .before .before .before .args in
+    let a = at-loop .before .before .before .before .before .before .args in
     readAt (a .limit) (a .run .now) (cursorOf (at-loop .loop .cursor)) ≡ stepRead (stepOf (c .got .given .0 .0)) (cursorOf (c .got .given .0 .1 .0))
-step-got c = sym (c .before .before .read .ensures) ∙ ap readTold (c .got .given .1)
+step-got c = sym (c .before .before .read .ensures) ∙ ap readOf (c .got .given .1)
 
 take-step-requires : tie.Need-take-step-requires Inv-loop μ-loop
 take-step-requires c κs =
@@ -69,16 +52,16 @@ loop-again c =
     underway-step (got .before .before .before .loop .inv) _ _ (step-got got) _ (called .take-step .ensures)
 
 -- after the loop
-ended : (c : tie.At-match2-keys2 Inv-loop μ-loop) → let l = c .before .before .loop in
-    let a = c .before .before .before .before .before .before .before .before .before .before .before .before .args in
+ended : (c : tie.At-match-keys2 Inv-loop μ-loop) → let l = c .before .before .loop in
+    let a = c .before .before .before .before .before .before .before .before .args in
     memoryOf (l .re) (l .im) (l .scratch-re) (l .scratch-im) ≡ running (a .limit) (a .run .now) (memoryOf (a .re .now) (a .im .now) (a .scratch-re .now) (a .scratch-im .now)) .lent
-ended c = underway-end (c .before .before .loop .inv) (c .before .read .result) (c .before .read .ensures) (c .match2 .keys2)
+ended c = underway-end (c .before .before .loop .inv) (c .before .read .result) (c .before .read .ensures) (c .match .keys2)
 
-sizes : (c : tie.At-match2-keys2 Inv-loop μ-loop) → let l = c .before .before .loop in
-    let a = c .before .before .before .before .before .before .before .before .before .before .before .before .args in
+sizes : (c : tie.At-match-keys2 Inv-loop μ-loop) → let l = c .before .before .loop in
+    let a = c .before .before .before .before .before .before .before .before .args in
     SameSizes (memoryOf (l .re) (l .im) (l .scratch-re) (l .scratch-im)) (memoryOf (a .re .now) (a .im .now) (a .scratch-re .now) (a .scratch-im .now))
 sizes c =
-    let start = c .before .before .before .before .before .before .before .before .before .before .before .before in
+    let start = c .before .before .before .before .before .before .before .before in
     rw (ended c) (lent-sizes (start .pre))
 
 same-length : tie.Need-same-length Inv-loop μ-loop
@@ -93,8 +76,8 @@ same-length-3 c = sizes c .scratch .res
 same-length-4 : tie.Need-same-length-4 Inv-loop μ-loop
 same-length-4 c = sizes c .scratch .ims
 
-returns-2 : tie.Need-returns-2 Inv-loop μ-loop
-returns-2 c = ended c
+returns : tie.Need-returns Inv-loop μ-loop
+returns c = ended c
 
 pub run-steps-spec : {M : Type 1} → statement M
 run-steps-spec =
@@ -102,10 +85,6 @@ run-steps-spec =
     (tie.spec
     Inv-loop
     μ-loop
-    start-requires
-    enum-known-width
-    enum-told
-    returns
     loop-holds
     read-requires
     enum-known-got
@@ -116,4 +95,4 @@ run-steps-spec =
     same-length-2
     same-length-3
     same-length-4
-    returns-2)
+    returns)

@@ -1,32 +1,33 @@
 use mathlib.Core.Path.{sym, ap, _∙_}
-use Rattle.framelaws.specs.Memory.{memoryOf}
-use Rattle.checker.specs.Told.{checkTold}
+use Rattle.amplitudelaws.specs.Lent.{lentMemory}
+use Rattle.checker.specs.Meaning.{checkedOf}
 use Rattle.runner.proofs.Outcomes.{runs-refused}
 use borrow.Author.Needs.{needs}
 use Rattle.runner.proofs.run_within.Statement.{statement}
 use Rattle.runner.proofs.run_within.Tie as tie
 
-check-within-requires : tie.Need-check-within-requires
-check-within-requires c κs = search needs
+check-with-start-requires : tie.Need-check-with-start-requires
+check-with-start-requires c κs = search needs
 
 enum-known-row : tie.Need-enum-known-row
 enum-known-row c = search needs
 
-enum-known-survey : tie.Need-enum-known-survey
-enum-known-survey c = search needs
+enum-known-start : tie.Need-enum-known-start
+enum-known-start c = search needs
 
 run-checked-requires : tie.Need-run-checked-requires
 run-checked-requires c κs =
     let matched = c .before .before .before .before .before in
     let checked = matched .before .before in
-    sym (checked .check-within .ensures) ∙ ap checkTold (matched .survey .given .1)
+    sym (checked .check-with-start .ensures) ∙ ap checkedOf (matched .start .given .1)
 
 returns : tie.Need-returns
 returns c =
     let checked = c .before .before .before in
     let a = checked .before .before .before .before .before .before .args in
-    runs-refused (a .limit) (a .run .now) (memoryOf (a .re .now) (a .im .now) (a .scratch-re .now) (a .scratch-im .now)) _ _
-    (sym (checked .check-within .ensures) ∙ ap checkTold (c .before .row .given .1))
+    let m = lentMemory (a .re) (a .im) (a .scratch-re) (a .scratch-im) in
+    runs-refused (a .limit) (a .run .now) m _ _
+    (sym (checked .check-with-start .ensures) ∙ ap checkedOf (c .before .row .given .1))
 
 same-length : tie.Need-same-length
 same-length c = search needs
@@ -47,9 +48,9 @@ pub run-within-spec : {M : Type 1} → statement M
 run-within-spec =
     tie.close
     (tie.spec
-    check-within-requires
+    check-with-start-requires
     enum-known-row
-    enum-known-survey
+    enum-known-start
     run-checked-requires
     returns
     same-length

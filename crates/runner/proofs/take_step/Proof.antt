@@ -1,6 +1,6 @@
 use mathlib.Core.Path.{ap}
-use Rattle.framelaws.specs.Memory.{memoryOf}
-use Rattle.steps.specs.Meant.{stepOf}
+use Rattle.amplitudelaws.specs.Lent.{lentMemory}
+use Rattle.steps.specs.Meaning.{stepOf}
 use Rattle.runner.proofs.Taken.{rotation-taken, promotion-taken, projection-taken, correction-taken}
 use borrow.Author.Needs.{needs}
 use Rattle.runner.proofs.take_step.Statement.{statement}
@@ -42,7 +42,8 @@ returns c =
     let matched = called .before .before .before .before in
     let start = matched .before .before .before .before .before .before in
     let a = start .args in
-    rotation-taken (a .width) (stepOf (a .step)) (memoryOf (a .re .now) (a .im .now) (a .scratch-re .now) (a .scratch-im .now)) (start .pre) _ _ _ _
+    let m = lentMemory (a .re) (a .im) (a .scratch-re) (a .scratch-im) in
+    rotation-taken (a .width) (stepOf (a .step)) m (start .pre) _ _ _ _
     (ap stepOf (matched .step .given .1)) (called .rotate-contiguous-active .ensures .1)
 
 same-length-3 : tie.Need-same-length-3
@@ -57,7 +58,8 @@ returns-2 c =
     let matched = called .before .before .before .before in
     let start = matched .before .before .before .before .before .before in
     let a = start .args in
-    promotion-taken (a .width) (stepOf (a .step)) (memoryOf (a .re .now) (a .im .now) (a .scratch-re .now) (a .scratch-im .now)) (start .pre) _ _
+    let m = lentMemory (a .re) (a .im) (a .scratch-re) (a .scratch-im) in
+    promotion-taken (a .width) (stepOf (a .step)) m (start .pre) _ _
     (ap stepOf (matched .step2 .given .1)) (called .promote-contiguous-active .ensures .1)
 
 same-length-5 : tie.Need-same-length-5
@@ -78,8 +80,9 @@ returns-3 c =
     let matched = called .before .before .before .before .before .before in
     let start = matched .before .before .before .before .before .before in
     let a = start .args in
-    projection-taken (a .width) (stepOf (a .step)) (memoryOf (a .re .now) (a .im .now) (a .scratch-re .now) (a .scratch-im .now)) (start .pre) _ _ _ _
-    (ap stepOf (matched .step3 .given .1)) (called .project-contiguous .ensures .1 .0) (called .project-contiguous .ensures .1 .1)
+    let m = lentMemory (a .re) (a .im) (a .scratch-re) (a .scratch-im) in
+    projection-taken (a .width) (stepOf (a .step)) m (start .pre) _ _ _ _
+    (ap stepOf (matched .step3 .given .1)) (called .project-contiguous .ensures .1)
 
 same-length-9 : tie.Need-same-length-9
 same-length-9 c = search needs
@@ -93,7 +96,8 @@ returns-4 c =
     let matched = called .before .before .before .before in
     let start = matched .before .before .before .before .before .before in
     let a = start .args in
-    correction-taken (a .width) (stepOf (a .step)) (memoryOf (a .re .now) (a .im .now) (a .scratch-re .now) (a .scratch-im .now)) (start .pre) _
+    let m = lentMemory (a .re) (a .im) (a .scratch-re) (a .scratch-im) in
+    correction-taken (a .width) (stepOf (a .step)) m (start .pre) _
     (ap stepOf (matched .step4 .given .1)) (called .correct-contiguous-active .ensures .1)
 
 pub take-step-spec : {M : Type 1} → statement M

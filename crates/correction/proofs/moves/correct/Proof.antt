@@ -1,6 +1,6 @@
 use mathlib.Core.Path.{sym, ap, _∙_}
 use Rattle.bitlaws.specs.Highest.{none-zero}
-use Rattle.bits.specs.Highest.{highestTold}
+use Rattle.bits.specs.Highest.{highestBitOf}
 use Rattle.kernels.specs.Pivot.{found-pivot}
 use borrow.Author.Needs.{needs}
 use Rattle.correction.proofs.moves.correct.Statement.{statement}
@@ -20,8 +20,8 @@ correct-alone-requires c κs =
     let searched = c .before .before .before .before in
     let start = searched .before .before .before in
     let P = start .args .pauli in
-    let none-set = sym (searched .highest-bit .ensures) ∙ ap highestTold (c .before .before .enum-told .given .1) in
-    (start .pre .0, none-zero 64 (P .x) (search needs) none-set, start .pre .2, start .pre .3)
+    let none-set = sym (searched .highest-bit .ensures) ∙ ap highestBitOf (c .before .before .enum-told .given .1) in
+    (start .pre .0, none-zero 64 (P .x) (search needs) none-set, start .pre .2)
 
 same-length : tie.Need-same-length
 same-length c = search needs
@@ -38,8 +38,8 @@ correct-pairs-requires c κs =
     let searched = found .before .before in
     let start = searched .before .before .before in
     let P = start .args .pauli in
-    let is-set = sym (searched .highest-bit .ensures) ∙ ap highestTold (found .pair-bit .given .1) in
-    (start .pre .0, found-pivot (P .nqubits) 64 (P .x) _ (start .pre .1) is-set, start .pre .2, start .pre .3)
+    let is-set = sym (searched .highest-bit .ensures) ∙ ap highestBitOf (found .pair-bit .given .1) in
+    (start .pre .0, found-pivot (P .nqubits) 64 (P .x) _ (start .pre .1) is-set, start .pre .2)
 
 same-length-3 : tie.Need-same-length-3
 same-length-3 c = search needs

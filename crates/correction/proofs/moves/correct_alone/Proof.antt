@@ -30,7 +30,8 @@ shl-dim c = omega (arith, c .before .before .before .pre .0)
 loop-holds : tie.Need-loop-holds Inv-loop μ-loop
 loop-holds c =
     let start = c .before .before .before in
-    (one-shifted 64 (start .args .pauli .nqubits) (omega (arith, start .pre .0)), omega arith, sweeping-none (start .pre .2) (start .pre .3))
+    let room = start .pre .2 in
+    (one-shifted 64 (start .args .pauli .nqubits) (omega (arith, start .pre .0)), omega arith, sweeping-none (room .0) (room .1))
 
 exponent-requires : tie.Need-exponent-requires Inv-loop μ-loop
 exponent-requires c κs = search needs

@@ -35,7 +35,8 @@ shl-half c = omega (arith, c .before .before .before .pre .0)
 loop-holds : tie.Need-loop-holds Inv-loop μ-loop
 loop-holds c =
     let start = c .before .before .before in
-    (one-shifted 64 (start .args .pauli .nqubits - 1) (omega (arith, start .pre .0)), omega arith, sweeping-none (start .pre .2) (start .pre .3))
+    let room = start .pre .2 in
+    (one-shifted 64 (start .args .pauli .nqubits - 1) (omega (arith, start .pre .0)), omega arith, sweeping-none (room .0) (room .1))
 
 opened-at-requires : tie.Need-opened-at-requires Inv-loop μ-loop
 opened-at-requires c κs = let pre = c .before .before .before .before .before .pre in omega (arith, pre .1 .inside, pre .0)

@@ -1,4 +1,4 @@
--- `kernel_calls::read::digits` is safe and ends. The measure is what is left of the text. Assumes nothing.
+-- `kernel_calls::read::digits` is safe and ends. The measure is what is left of the text.
 use Prim.Native.Nat.{_-_}
 use native.Mathlib.Omega.{arith}
 use lib.ListN.{length}

@@ -1,4 +1,4 @@
--- `kernel_calls::read::fill` is safe and ends. The buffer keeps its length; the measure is what is left of it. Assumes nothing.
+-- `kernel_calls::read::fill` is safe and ends. The buffer keeps its length; the measure is what is left of it.
 use Prim.Native.Nat.{_-_}
 use native.Mathlib.Omega.{arith}
 use mathlib.Core.Path.{_≡_}

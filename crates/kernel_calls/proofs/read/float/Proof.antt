@@ -1,4 +1,4 @@
--- `kernel_calls::read::float` is safe: a word that is read as it stands is no NaN's pattern. Assumes nothing.
+-- `kernel_calls::read::float` is safe: a word that is read as it stands is no NaN's pattern.
 use mathlib.Core.Path.{subst⁻¹}
 use mathlib.Core.Bool.{Bool, not}
 use lib.Dec.{T}

@@ -1,5 +1,4 @@
 -- `kernel_calls::read::words` is safe and ends. Nothing has to hold from turn to turn; the measure is what is left of the text.
--- Assumes nothing.
 use Prim.Native.Nat.{_-_}
 use native.Mathlib.Omega.{arith}
 use lib.ListN.{length}

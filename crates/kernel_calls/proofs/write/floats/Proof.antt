@@ -1,4 +1,4 @@
--- `kernel_calls::write::floats` is safe and ends. The measure is what is left of the buffer. Assumes nothing.
+-- `kernel_calls::write::floats` is safe and ends. The measure is what is left of the buffer.
 use Prim.Native.Nat.{_-_}
 use native.Mathlib.Omega.{arith}
 use lib.ListN.{length}

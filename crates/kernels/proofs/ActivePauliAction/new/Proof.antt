@@ -19,7 +19,7 @@ use Rattle.paulis.specs.Strings.{pauliOf}
 use Rattle.paulis.specs.declared.PauliString.{PauliString}
 use Rattle.amplitudelaws.specs.Rows.{widthRow, hermitianRow, actionRow}
 use Rattle.amplitudelaws.specs.Passed.{hermitian-passed}
-use Rattle.kernels.specs.Kernel.{actionOf}
+use Rattle.kernels.specs.Kernel.{pauliAction}
 use Rattle.kernels.proofs.OneWord.{one-word, first-below}
 use Rattle.kernels.proofs.ActivePauliAction.new.Statement.{statement}
 use Rattle.kernels.proofs.ActivePauliAction.new.Tie as tie
@@ -92,7 +92,7 @@ returns-3 c =
     let none : hermitianRow 62 (narrow (given asked)) ≡ 0 = sym (asked .hermitian-row .ensures) ∙ c .before .if2 .left in
     let slim : given asked .nqubits ≤ 62 = hermitian-passed 62 (narrow (given asked)) none .1 in
     let same : narrow (given asked) ≡ pauliOf (given asked) = whole (given asked) (fit asked) (small-x asked) (small-z asked) slim in
-    ap accepted (c .action .ensures ∙ ap actionOf same)
+    ap accepted (c .action .ensures ∙ ap pauliAction same)
     ∙ sym (answered-none (actionRow (pauliOf (given asked))) _ (sym (rows asked) ∙ c .before .if2 .left))
 
 pub new-spec : {M : Type 1} → statement M

@@ -1,4 +1,4 @@
--- `Ledger::counted` meets its contract, count by count. Assumes nothing.
+-- `Ledger::counted` meets its contract, count by count.
 use mathlib.Core.Path.{_≡_}
 use mathlib.Core.Bool.{Bool, true, not}
 use Prim.Native.Nat.{ℕ}
@@ -7,14 +7,14 @@ use Rattle.runlaws.specs.Ledger.{Ledger, raisedBy, counted}
 use Rattle.ledger.proofs.Ledger.counted.Statement.{statement}
 use Rattle.ledger.proofs.Ledger.counted.Tie as tie
 
-raised-requires : tie.Need-raised-requires
-raised-requires c κs = search needs
+one-more-requires : tie.Need-one-more-requires
+one-more-requires c κs = search needs
 
-raised-requires-2 : tie.Need-raised-requires-2
-raised-requires-2 c κs = search needs
+one-more-requires-2 : tie.Need-one-more-requires-2
+one-more-requires-2 c κs = search needs
 
-raised-requires-3 : tie.Need-raised-requires-3
-raised-requires-3 c κs = search needs
+one-more-requires-3 : tie.Need-one-more-requires-3
+one-more-requires-3 c κs = search needs
 
 counts : (t : Bool) (L : Ledger) (offered finished refused : ℕ)
     → offered ≡ raisedBy true (L .offered) → finished ≡ raisedBy t (L .finished) → refused ≡ raisedBy (not t) (L .refused)
@@ -23,7 +23,7 @@ unfolding counted
 counts t L offered finished refused o f r = rw (o, f, r)
 
 returns : tie.Need-returns
-returns c = counts _ _ _ _ _ (c .before .before .raised .ensures) (c .before .raised2 .ensures) (c .raised3 .ensures)
+returns c = counts _ _ _ _ _ (c .before .before .one-more .ensures) (c .before .one-more2 .ensures) (c .one-more3 .ensures)
 
 pub counted-spec : {M : Type 1} → statement M
-counted-spec = tie.close (tie.spec raised-requires raised-requires-2 raised-requires-3 returns)
+counted-spec = tie.close (tie.spec one-more-requires one-more-requires-2 one-more-requires-3 returns)

@@ -1,11 +1,11 @@
--- `Ledger::serve` meets its contract: the run's, and one call more in the ledger. Assumes nothing.
+-- `Ledger::serve` meets its contract: the run's, and one call more in the ledger.
 use mathlib.Core.Path.{ap, _∙_}
 use mathlib.Core.Bool.{Bool}
 use borrow.Author.Needs.{needs}
 use Rattle.answers.specs.Answer.{Answer, isAccepted}
 use Rattle.runlaws.specs.Calls.{Ending}
 use Rattle.runlaws.specs.Ledger.{counted, finishes, served}
-use Rattle.ledger.specs.Told.{ledgerOf}
+use Rattle.ledger.specs.Meaning.{ledgerOf}
 use Rattle.ledger.proofs.Ledger.serve.Statement.{statement}
 use Rattle.ledger.proofs.Ledger.serve.Tie as tie
 
@@ -35,13 +35,9 @@ unfolding served finishes
 returns c =
     let ran = c .before .before .before .before .before .before .before .before .before .before in
     let start = ran .before .before .before .before .before .before .before .before .before .before in
-    let told = ran .run-contiguous .ensures .0 in (
-      told,
-      (
-        c .counted .ensures ∙ ap (λ (t : Bool). counted t (ledgerOf (start .args .self))) (c .before .is-finished .ensures ∙ ap (λ (a : Answer Ending). isAccepted a) told),
-        ran .run-contiguous .ensures .1,
-      ),
-    )
+    let done = ran .run-contiguous .ensures in
+    let told = c .before .is-finished .ensures ∙ ap (λ (a : Answer Ending). isAccepted a) (done .0) in
+    (done, c .counted .ensures ∙ ap (λ (t : Bool). counted t (ledgerOf (start .args .self))) told)
 
 pub serve-spec : {M : Type 1} → statement M
 serve-spec =

@@ -9,9 +9,9 @@ use Rattle.amplitudelaws.specs.Arithmetic.{scaled}
 use Rattle.amplitudelaws.specs.Binary.{binary, Point}
 use Rattle.amplitudelaws.specs.State.{State, stateOf, point}
 use Rattle.amplitudelaws.specs.Sweeping.{Sweeping, sweeping-none, one-ahead, one-more, one-all}
-use Rattle.kernels.specs.Kernel.{MeasurementKernel, measurementMeant}
+use Rattle.kernels.specs.Kernel.{MeasurementKernel, measurementKernelOf}
 use Rattle.measurement.specs.Measured.{kernelProjected}
-use Rattle.measurement.proofs.Leaving.{holding-half, pivot-low, output-low, source-inside, diagonal-left}
+use Rattle.measurement.proofs.Leaving.{room-half, pivot-low, output-low, source-inside, diagonal-left}
 use Rattle.measurement.proofs.diagonal.project_diagonal.Statement.{statement}
 use Rattle.measurement.proofs.diagonal.project_diagonal.Tie as tie
 
@@ -30,15 +30,17 @@ not-behind p z e j from q = omega (arith, source-ge p z e j)
 abbrev Inv-loop : tie.InvT-loop
 Inv-loop re₀ im₀ kernel branch invnorm odd j₀ re im j =
     let n = kernel .action .nqubits - 1 in
-    (j ≤ 2 ^ n) × Sweeping (λ b. b) (kernelProjected (measurementMeant kernel) (bitOf branch) invnorm (stateOf re₀ im₀)) n (stateOf re₀ im₀) j (stateOf re im)
+    (j ≤ 2 ^ n) × Sweeping (λ b. b) (kernelProjected (measurementKernelOf kernel) (bitOf branch) invnorm (stateOf re₀ im₀)) n (stateOf re₀ im₀) j (stateOf re im)
 
 abbrev μ-loop : tie.MeasureT-loop
 μ-loop re₀ im₀ kernel branch invnorm odd j₀ re im j = kernel .«out_dim» - j
 
 loop-holds : tie.Need-loop-holds Inv-loop μ-loop
 loop-holds c =
-    let room = holding-half (c .before .before .before .pre .2) in
-    (omega arith, sweeping-none (room .re) (room .im))
+    let start = c .before .before .before in
+    let a = start .args in
+    let room = room-half (a .kernel .action .nqubits) (stateOf (a .re .now) (a .im .now)) (start .pre .2) in
+    (omega arith, sweeping-none (room .0) (room .1))
 
 source-requires : tie.Need-source-requires Inv-loop μ-loop
 source-requires c κs =
@@ -53,7 +55,7 @@ gather-requires c κs =
     let m = pre .0 in
     let swept = at-loop .loop .inv .1 in
     let inside = source-inside m (at-loop .loop .j) (omega (arith, m .outputs, turn .if1 .taken)) _ _ (c .before .before .source .ensures) in
-    omega (arith, turn .if1 .taken, m .outputs, inside, swept .re .room, swept .im .room, swept .re .len, swept .im .len, pre .2 .re, pre .2 .im)
+    omega (arith, turn .if1 .taken, m .outputs, inside, swept .re .room, swept .im .room, swept .re .len, swept .im .len, pre .2)
 
 add-j : tie.Need-add-j Inv-loop μ-loop
 add-j c = omega arith
@@ -73,7 +75,7 @@ loop-again c =
     let swept = at-loop .loop .inv .1 in
     let j : ℕ = at-loop .loop .j in
     let from : ℕ = found .source .result in
-    let K = measurementMeant (a .kernel) in
+    let K = measurementKernelOf (a .kernel) in
     let under : j < 2 ^ (a .kernel .action .nqubits - 1) = omega (arith, m .outputs, turn .if1 .taken) in
     let ahead = not-behind _ _ _ j from (found .source .ensures) in (
       omega arith,

@@ -24,12 +24,12 @@ size c =
     one-shifted 64 (start .args .nqubits) (omega (arith, start .pre .0))
 
 loop-holds : tie.Need-loop-holds Inv-loop μ-loop
-loop-holds c = (omega arith, sweeping-none (c .before .before .before .before .pre .1 .re) (c .before .before .before .before .pre .1 .im))
+loop-holds c = (omega arith, sweeping-none (c .before .before .before .before .pre .1 .0) (c .before .before .before .before .pre .1 .1))
 
 read-requires : tie.Need-read-requires Inv-loop μ-loop
 read-requires c κs =
     let pre = c .before .before .before .before .before .before .before .before .pre in
-    omega (arith, size (c .before .before .before), c .before .before .loop-test .taken, pre .2 .re, pre .2 .im)
+    omega (arith, size (c .before .before .before), c .before .before .loop-test .taken, pre .2 .0, pre .2 .1)
 
 write-requires : tie.Need-write-requires Inv-loop μ-loop
 write-requires c κs =

@@ -13,7 +13,7 @@ use Rattle.statelaws.specs.Pairs.{low-lt, high-lt}
 use Rattle.amplitudelaws.specs.Arithmetic.{mixed, scale, direction}
 use Rattle.amplitudelaws.specs.Binary.{binary, Point}
 use Rattle.amplitudelaws.specs.State.{stateOf, point}
-use Rattle.kernels.specs.Kernel.{MeasurementKernel, measurementMeant}
+use Rattle.kernels.specs.Kernel.{MeasurementKernel, measurementKernelOf}
 use Rattle.measurement.specs.Measured.{kernelRemaining}
 use Rattle.measurement.proofs.Opened.{opened}
 use Rattle.measurement.proofs.Leaving.{pivot-low, output-low, mixing-left, mixing-pivoted}
@@ -55,7 +55,7 @@ read-requires c κs =
     let found = c .before .before .before in
     let start = found .before .before .before in
     let low = low-lt (mixing-pivoted (start .pre .0) (start .pre .1)) (start .args .j) (start .pre .2) in
-    omega (arith, low, basis found, start .pre .3 .re, start .pre .3 .im)
+    omega (arith, low, basis found, start .pre .3 .0, start .pre .3 .1)
 
 read-requires-2 : tie.Need-read-requires-2
 read-requires-2 c κs =
@@ -64,7 +64,7 @@ read-requires-2 c κs =
     let a = start .args in
     let high : bitXor (found .opened-at .result) (a .kernel .action .xmask) < 2 ^ (a .kernel .action .nqubits)
     = rw (basis found) (high-lt (mixing-pivoted (start .pre .0) (start .pre .1)) (a .j) (start .pre .2)) in
-    omega (arith, high, start .pre .3 .re, start .pre .3 .im)
+    omega (arith, high, start .pre .3 .0, start .pre .3 .1)
 
 mixed-requires : tie.Need-mixed-requires
 mixed-requires c κs = search needs
@@ -75,7 +75,7 @@ returns c =
     let found = asked .before in
     let start = found .before .before .before in
     let a = start .args in
-    made (measurementMeant (a .kernel)) (a .branch) (point (stateOf (a .re .now) (a .im .now))) (a .j) (start .pre .1)
+    made (measurementKernelOf (a .kernel)) (a .branch) (point (stateOf (a .re .now) (a .im .now))) (a .j) (start .pre .1)
     (found .opened-at .result) (basis found) (asked .differs-from-parity .result) (asked .differs-from-parity .ensures)
     (c .before .before .before .before .direction .result) _ _ _ _
     (c .before .before .before .before .direction .ensures) (c .before .before .before .scale .ensures) (c .before .before .read .ensures) (c .before .read2 .ensures) (c .mixed .ensures)

@@ -8,7 +8,7 @@ use Rattle.amplitudelaws.specs.Arithmetic.{scaled}
 use Rattle.amplitudelaws.specs.Binary.{binary, Point}
 use Rattle.amplitudelaws.specs.State.{State, stateOf, point}
 use Rattle.amplitudelaws.specs.Sweeping.{Sweeping, sweeping-none, one-more, one-all}
-use Rattle.kernels.specs.Kernel.{MeasurementKernel, measurementMeant}
+use Rattle.kernels.specs.Kernel.{MeasurementKernel, measurementKernelOf}
 use Rattle.measurement.specs.Measured.{kernelRemaining, kernelProjected}
 use Rattle.measurement.proofs.mixing.project_to_scratch.Statement.{statement}
 use Rattle.measurement.proofs.mixing.project_to_scratch.Tie as tie
@@ -22,13 +22,13 @@ abbrev Inv-loop : tie.InvT-loop
 Inv-loop re im scratch-re₀ scratch-im₀ kernel branch invnorm j₀ scratch-re scratch-im j =
     let n = kernel .action .nqubits - 1 in
     (j ≤ 2 ^ n)
-    × Sweeping (λ b. b) (kernelProjected (measurementMeant kernel) (bitOf branch) invnorm (stateOf re im)) n (stateOf scratch-re₀ scratch-im₀) j (stateOf scratch-re scratch-im)
+    × Sweeping (λ b. b) (kernelProjected (measurementKernelOf kernel) (bitOf branch) invnorm (stateOf re im)) n (stateOf scratch-re₀ scratch-im₀) j (stateOf scratch-re scratch-im)
 
 abbrev μ-loop : tie.MeasureT-loop
 μ-loop re im scratch-re₀ scratch-im₀ kernel branch invnorm j₀ scratch-re scratch-im j = kernel .«out_dim» - j
 
 loop-holds : tie.Need-loop-holds Inv-loop μ-loop
-loop-holds c = let room = c .before .before .before .before .pre .3 in (omega arith, sweeping-none (room .re) (room .im))
+loop-holds c = let room = c .before .before .before .before .pre .3 in (omega arith, sweeping-none (room .0) (room .1))
 
 mixture-requires : tie.Need-mixture-requires Inv-loop μ-loop
 mixture-requires c κs =
@@ -63,7 +63,7 @@ loop-again c =
     let under : at-loop .loop .j < 2 ^ (a .kernel .action .nqubits - 1) = omega (arith, start .pre .0 .outputs, turn .if1 .taken) in (
       omega arith,
       one-more (at-loop .loop .inv .1) _ _ (called .write .ensures) under
-          (made (measurementMeant (a .kernel)) (bitOf (a .branch)) (a .invnorm) (stateOf (a .re .now) (a .im .now)) (at-loop .loop .j) _ _ (scaling .before .mixture .ensures) (scaling .scaled .ensures)),
+          (made (measurementKernelOf (a .kernel)) (bitOf (a .branch)) (a .invnorm) (stateOf (a .re .now) (a .im .now)) (at-loop .loop .j) _ _ (scaling .before .mixture .ensures) (scaling .scaled .ensures)),
     )
 
 same-length : tie.Need-same-length Inv-loop μ-loop

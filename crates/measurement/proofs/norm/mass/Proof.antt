@@ -8,7 +8,7 @@ use Rattle.bitlaws.specs.Digit.{bitOf}
 use Rattle.amplitudelaws.specs.Binary.{binary, Point}
 use Rattle.amplitudelaws.specs.Probability.{squared, total}
 use Rattle.amplitudelaws.specs.State.{State, stateOf, point}
-use Rattle.kernels.specs.Kernel.{MeasurementKernel, measurementMeant}
+use Rattle.kernels.specs.Kernel.{MeasurementKernel, measurementKernelOf}
 use Rattle.measurement.specs.Measured.{kernelRemaining, kernelMass}
 use Rattle.measurement.proofs.norm.mass.Statement.{statement}
 use Rattle.measurement.proofs.norm.mass.Tie as tie
@@ -25,7 +25,7 @@ module _ (K : MeasurementKernel) (v : ℕ) (S : State) where
 
 abbrev Inv-loop : tie.InvT-loop
 Inv-loop re im kernel branch sum₀ j₀ sum j =
-    (j ≤ 2 ^ (kernel .action .nqubits - 1)) × (sum ≡ kernelMass (measurementMeant kernel) (bitOf branch) j (stateOf re im))
+    (j ≤ 2 ^ (kernel .action .nqubits - 1)) × (sum ≡ kernelMass (measurementKernelOf kernel) (bitOf branch) j (stateOf re im))
 
 abbrev μ-loop : tie.MeasureT-loop
 μ-loop re im kernel branch sum₀ j₀ sum j = kernel .«out_dim» - j
@@ -33,7 +33,7 @@ abbrev μ-loop : tie.MeasureT-loop
 loop-holds : tie.Need-loop-holds Inv-loop μ-loop
 loop-holds c =
     let a = c .before .before .args in
-    (omega arith, none (measurementMeant (a .kernel)) (bitOf (a .branch)) (stateOf (a .re .now) (a .im .now)))
+    (omega arith, none (measurementKernelOf (a .kernel)) (bitOf (a .branch)) (stateOf (a .re .now) (a .im .now)))
 
 remaining-requires : tie.Need-remaining-requires Inv-loop μ-loop
 remaining-requires c κs =
@@ -56,7 +56,7 @@ loop-again c =
     let start = at-loop .before .before .before in
     let a = start .args in (
       omega (arith, start .pre .0 .outputs, turn .if1 .taken),
-      more (measurementMeant (a .kernel)) (bitOf (a .branch)) (stateOf (a .re .now) (a .im .now)) (at-loop .loop .j) _ _ _ (at-loop .loop .inv .1) (c .before .remaining .ensures) (c .squared .ensures),
+      more (measurementKernelOf (a .kernel)) (bitOf (a .branch)) (stateOf (a .re .now) (a .im .now)) (at-loop .loop .j) _ _ _ (at-loop .loop .inv .1) (c .before .remaining .ensures) (c .squared .ensures),
     )
 
 returns : tie.Need-returns Inv-loop μ-loop
@@ -65,7 +65,7 @@ returns c =
     let start = at-loop .before .before .before in
     let a = start .args in
     let end : at-loop .loop .j ≡ 2 ^ (a .kernel .action .nqubits - 1) = omega (arith, start .pre .0 .outputs, c .if1 .left) in
-    at-loop .loop .inv .1 ∙ ap (λ (k : ℕ). kernelMass (measurementMeant (a .kernel)) (bitOf (a .branch)) k (stateOf (a .re .now) (a .im .now))) end
+    at-loop .loop .inv .1 ∙ ap (λ (k : ℕ). kernelMass (measurementKernelOf (a .kernel)) (bitOf (a .branch)) k (stateOf (a .re .now) (a .im .now))) end
 
 pub mass-spec : {M : Type 1} → statement M
 mass-spec =

@@ -3,7 +3,7 @@ use native.Mathlib.Omega.{arith}
 use borrow.Author.Needs.{needs}
 use borrow.Author.Tests.{not-true, not-false}
 use Rattle.amplitudelaws.specs.State.{stateOf, point}
-use Rattle.kernels.specs.Kernel.{measurementMeant}
+use Rattle.kernels.specs.Kernel.{measurementKernelOf}
 use Rattle.measurement.proofs.Leaving.{pivot-low, output-low, source-inside, diagonal-left}
 use Rattle.measurement.proofs.norm.remaining.Statement.{statement}
 use Rattle.measurement.proofs.norm.remaining.Tie as tie
@@ -25,7 +25,7 @@ read-requires : tie.Need-read-requires
 read-requires c κs =
     let start = c .before .before .before .before .before .before in
     let inside = source-inside (start .pre .0) (start .args .j) (start .pre .1) _ _ (c .source .ensures) in
-    omega (arith, inside, start .pre .2 .re, start .pre .2 .im)
+    omega (arith, inside, start .pre .2 .0, start .pre .2 .1)
 
 returns-2 : tie.Need-returns-2
 returns-2 c =
@@ -33,7 +33,7 @@ returns-2 c =
     let a = start .args in
     let F = point (stateOf (a .re .now) (a .im .now)) in
     c .read .ensures ∙ ap F (c .before .source .ensures)
-    ∙ sym (diagonal-left (measurementMeant (a .kernel)) (a .branch) F (a .j) (not-false (a .kernel .«is_diagonal») (c .before .before .before .if1 .left)))
+    ∙ sym (diagonal-left (measurementKernelOf (a .kernel)) (a .branch) F (a .j) (not-false (a .kernel .«is_diagonal») (c .before .before .before .if1 .left)))
 
 pub remaining-spec : {M : Type 1} → statement M
 remaining-spec =

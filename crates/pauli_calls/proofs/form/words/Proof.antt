@@ -1,5 +1,4 @@
 -- `pauli_calls::form::words` is safe and ends. The words keep their number; the measure is what is left of the text.
--- Assumes nothing.
 use Prim.Native.Nat.{_-_}
 use native.Mathlib.Omega.{arith}
 use mathlib.Core.Path.{_≡_}

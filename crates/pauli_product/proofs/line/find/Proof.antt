@@ -1,5 +1,5 @@
 -- `pauli_product::line::find` meets its contract. The loop's invariant: `i` lies between `from` and the length.
--- The measure is what is left of the length. Assumes nothing.
+-- The measure is what is left of the length.
 use Prim.Native.Nat.{_≤_, _-_}
 use native.Mathlib.Omega.{arith}
 use lib.ListN.{length}

@@ -5,7 +5,7 @@ use Rattle.bitlaws.specs.Digit.{put}
 use Rattle.paulilaws.specs.Pauli.{same}
 use Rattle.paulilaws.specs.Letter.{Letter, withLetter, isY}
 use Rattle.masks.specs.Mask.{mask}
-use Rattle.masks.specs.MaskLaws.{written-inside}
+use Rattle.masks.specs.MaskLaws.{bit-written-inside}
 use borrow.Author.Needs.{needs}
 use Rattle.paulis.proofs.letter.with.Statement.{statement}
 use Rattle.paulis.proofs.letter.with.Tie as tie
@@ -51,8 +51,10 @@ returns c =
     let z = c .before .before .before .z-part in
     same refl
     (ap₂ (λ (new old : ℕ). (p .phase + new + 3 * old) % 4) (c .before .is-y2 .ensures .0) was)
-    (c .before .before .before .before .set-packed-bit .ensures ∙ written-inside q (x .result) (mask (p .x)) (s .pre .0) ∙ ap (λ (d : ℕ). put q d (mask (p .x))) (x .ensures))
-    (c .before .before .set-packed-bit2 .ensures ∙ written-inside q (z .result) (mask (p .z)) (s .pre .0) ∙ ap (λ (d : ℕ). put q d (mask (p .z))) (z .ensures))
+    (c .before .before .before .before .set-packed-bit .ensures
+    ∙ bit-written-inside q (x .result) (mask (p .x)) (s .pre .0) ∙ ap (λ (d : ℕ). put q d (mask (p .x))) (x .ensures))
+    (c .before .before .set-packed-bit2 .ensures
+    ∙ bit-written-inside q (z .result) (mask (p .z)) (s .pre .0) ∙ ap (λ (d : ℕ). put q d (mask (p .z))) (z .ensures))
 
 pub with-spec : {M : Type 1} → statement M
 with-spec =

@@ -6,7 +6,7 @@ use lib.ListN.{length}
 use Rattle.answers.specs.Answer.Answer.{accepted, refused}
 use Rattle.paulilaws.specs.Letter.{Letter, letterAt}
 use Rattle.paulis.specs.Calls.{getCall}
-use Rattle.paulis.specs.Strings.{pauliOf, letterTold, letterMeant}
+use Rattle.paulis.specs.Strings.{pauliOf, letterAnswerOf, pauliLetterOf}
 use Rattle.paulitext.specs.Text.{prefix, byteOf}
 use Rattle.paulitext.proofs.Bytes.{text-prefix, text-none, text-letter}
 use Rattle.paulitext.proofs.Walk.{got-letter}
@@ -58,9 +58,9 @@ returns-3 c =
     let q : ℕ = a .i - length (prefix (a .coefficient)) in
     let inside : q < a .pauli .nqubits = omega (arith, s .pre .1, c .before .before .before .before .before .if2 .left) in
     let read = c .before .before .letter .given in
-    let told : accepted (letterMeant (read .0 .0)) ≡ accepted (letterAt q P)
-    = ap letterTold (sym (read .1)) ∙ c .before .before .before .before .get .ensures ∙ ap (λ (n : ℕ). getCall P (a .i - n)) len ∙ got-letter P q (s .pre .0) inside in
-    let same : letterMeant (read .0 .0) ≡ letterAt q P = cc in
+    let told : accepted (pauliLetterOf (read .0 .0)) ≡ accepted (letterAt q P)
+    = ap letterAnswerOf (sym (read .1)) ∙ c .before .before .before .before .get .ensures ∙ ap (λ (n : ℕ). getCall P (a .i - n)) len ∙ got-letter P q (s .pre .0) inside in
+    let same : pauliLetterOf (read .0 .0) ≡ letterAt q P = cc in
     c .of-letter .ensures ∙ ap byteOf same ∙ sym (text-letter (a .coefficient) (a .pauli .nqubits) (a .i) P h inside)
 
 returns-4 : tie.Need-returns-4
@@ -72,7 +72,7 @@ returns-4 c =
     let q : ℕ = a .i - length (prefix (a .coefficient)) in
     let inside : q < a .pauli .nqubits = omega (arith, s .pre .1, c .before .before .before .if2 .left, c .before .before .before .before .before .if1 .left) in
     let told : refused (c .enum-told .given .0 .0) ≡ accepted (letterAt q P)
-    = ap letterTold (sym (c .enum-told .given .1)) ∙ c .before .before .get .ensures ∙ ap (λ (n : ℕ). getCall P (a .i - n)) len ∙ got-letter P q (s .pre .0) inside in
+    = ap letterAnswerOf (sym (c .enum-told .given .1)) ∙ c .before .before .get .ensures ∙ ap (λ (n : ℕ). getCall P (a .i - n)) len ∙ got-letter P q (s .pre .0) inside in
     absurd (never told)
 
 pub at-spec : {M : Type 1} → statement M

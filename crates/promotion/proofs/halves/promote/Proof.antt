@@ -8,6 +8,7 @@ use Rattle.bitlaws.specs.Pairs.{pairOf}
 use Rattle.amplitudelaws.specs.Arithmetic.{scale}
 use Rattle.amplitudelaws.specs.Binary.{binary, Point}
 use Rattle.amplitudelaws.specs.Promotion.{raised, promoted, promoted-low, promoted-high}
+use Rattle.amplitudelaws.specs.Rows.{widestPromotion}
 use Rattle.amplitudelaws.specs.State.{stateOf, point}
 use Rattle.amplitudelaws.specs.Sweeping.{Sweeping, sweeping-none}
 use Rattle.promotion.proofs.NewQubit.{half-ahead, half-more, half-all}
@@ -15,7 +16,7 @@ use borrow.Author.Needs.{needs}
 use Rattle.promotion.proofs.halves.promote.Statement.{statement}
 use Rattle.promotion.proofs.halves.promote.Tie as tie
 
-dim-is : (n : ℕ) → n ≤ 60 → (1 * 2 ^ n) % 2 ^ 64 ≡ 2 ^ n
+dim-is : (n : ℕ) → n ≤ widestPromotion → (1 * 2 ^ n) % 2 ^ 64 ≡ 2 ^ n
 dim-is n h = one-shifted 64 n (omega arith)
 
 abbrev Inv-loop : tie.InvT-loop
@@ -29,13 +30,14 @@ shl-dim : tie.Need-shl-dim Inv-loop μ-loop
 shl-dim c = search needs
 
 loop-holds : tie.Need-loop-holds Inv-loop μ-loop
-loop-holds c = let pre = c .before .before .pre in (omega arith, sweeping-none (pre .1) (pre .2))
+loop-holds c = let pre = c .before .before .pre in (omega arith, sweeping-none (pre .1 .0) (pre .1 .1))
 
 add-promote-at : tie.Need-add-promote-at Inv-loop μ-loop
 add-promote-at c =
     let start = c .before .before .before .before .before .before in
     let a = start .args in
-    omega (arith, dim-is (a .nqubits) (start .pre .0), pow-mono {i = a .nqubits} {j = 60} (start .pre .0), c .before .before .loop-test .taken)
+    let narrow = pow-mono {i = a .nqubits} {j = widestPromotion} (start .pre .0) in
+    omega (arith, dim-is (a .nqubits) (start .pre .0), narrow, c .before .before .loop-test .taken)
 
 promote-at-requires : tie.Need-promote-at-requires Inv-loop μ-loop
 promote-at-requires c κs =

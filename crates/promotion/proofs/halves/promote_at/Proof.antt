@@ -1,6 +1,5 @@
 use mathlib.Core.Path.{ap₂}
 use Rattle.amplitudelaws.specs.Binary.{Point}
-use Rattle.amplitudelaws.specs.Promotion.{raised}
 use Rattle.amplitudelaws.specs.State.{stateOf, point, setPoint}
 use borrow.Author.Needs.{needs}
 use Rattle.promotion.proofs.halves.promote_at.Statement.{statement}
@@ -55,7 +54,7 @@ same-length-2 : tie.Need-same-length-2
 same-length-2 c = search needs
 
 returns : tie.Need-returns
-unfolding point setPoint raised
+unfolding point setPoint
 returns c =
     let a = c .before .before .before .before .before .before .args in
     ap₂ (λ (u v : Point). setPoint (a .high) v (setPoint (a .low) u (stateOf (a .re .now) (a .im .now)))) (c .before .scale .ensures) (c .times-i .ensures)

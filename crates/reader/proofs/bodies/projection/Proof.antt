@@ -3,10 +3,11 @@ use lib.Dec.{lit<}
 use lib.Ieee.Scale.{finite}
 use Rattle.answers.specs.Row.{some-row}
 use Rattle.amplitudelaws.specs.Rows.{hermitianRow, widestKernel}
-use Rattle.framelaws.specs.Rows.{projectionStepRow}
+use Rattle.framelaws.specs.Rows.{projectionStepRow, stepRow}
 use Rattle.runlaws.specs.Bytes.{byteAt, floatAt, pauliAt}
-use Rattle.steps.specs.Meant.{cursorOf}
-use Rattle.reader.specs.Told.{floatTold}
+use Rattle.runlaws.specs.Reading.{judged}
+use Rattle.steps.specs.Meaning.{cursorOf}
+use Rattle.reader.specs.Meaning.{floatAnswerOf}
 use Rattle.reader.proofs.Judging.{judged-refused, projection-pauli, projection-nan, projection-row, projection-width, projection-step}
 use borrow.Author.Needs.{needs}
 use Rattle.reader.proofs.bodies.projection.Statement.{statement}
@@ -24,10 +25,11 @@ pauli-row : (c : tie.After-hermitian-row) → let a = c .before .before .before 
 pauli-row c = c .hermitian-row .ensures ∙ ap (hermitianRow widestKernel) (c .before .pauli .ensures)
 
 returns : tie.Need-returns
+unfolding judged stepRow
 returns c =
     let a = c .before .before .before .before .args in
     let refused = some-row _ (c .if1 .taken) in
-    judged-refused _ (cursorOf (a .cursor)) (a .next) _ _ (projection-pauli _ _ _ _ _ (pauli-row (c .before)) refused) refused
+    λ limit. judged-refused _ (cursorOf (a .cursor)) (a .next) _ _ (projection-pauli _ _ _ _ _ (pauli-row (c .before)) refused) refused
 
 float-requires : tie.Need-float-requires
 float-requires c κs = search needs
@@ -39,11 +41,13 @@ enum-told : tie.Need-enum-told
 enum-told c = search needs
 
 returns-2 : tie.Need-returns-2
+unfolding judged stepRow
 returns-2 c =
     let passed = c .before .before .before in
     let a = passed .before .before .before .before .args in
     let none = sym (pauli-row (passed .before)) ∙ passed .if1 .left in
-    judged-refused _ (cursorOf (a .cursor)) (a .next) _ _ (projection-nan _ _ _ _ none (ap floatTold (sym (c .enum-told .given .1)) ∙ c .before .before .float .ensures)) (lit< tt)
+    let eight = projection-nan _ _ _ _ none (ap floatAnswerOf (sym (c .enum-told .given .1)) ∙ c .before .before .float .ensures) in
+    λ limit. judged-refused _ (cursorOf (a .cursor)) (a .next) _ _ eight (lit< tt)
 
 shared-slice-read-pivot : tie.Need-shared-slice-read-pivot
 shared-slice-read-pivot c = search needs
@@ -68,7 +72,7 @@ first-requires c κs = search needs
 
 -- its float is the body's, and its row the step's
 norm : (c : tie.After-invnorm) → c .invnorm .given .0 .0 ≡ floatAt (c .before .before .before .before .before .before .before .args .body .now) 19
-norm c = ap floatTold (sym (c .invnorm .given .1)) ∙ c .before .before .float .ensures
+norm c = ap floatAnswerOf (sym (c .invnorm .given .1)) ∙ c .before .before .float .ensures
 
 step-row : (c : tie.After-first) → let a = c .before .before .before .before .before .before .before .before .before .before .before .before .before .before .args in
     c .first .result ≡ projectionStepRow (pauliAt (a .cursor .width) (a .body .now)) (byteAt (a .body .now) 17) (byteAt (a .body .now) 18) (floatAt (a .body .now) 19)
@@ -78,20 +82,23 @@ step-row c =
     projection-row _ _ _ _ (matched .before .before .before .before .before .pauli .ensures) (measured .before .is-finite .ensures ∙ ap finite (norm matched)) (measured .measurement-row .ensures) (c .before .row .ensures) (c .first .ensures)
 
 returns-3 : tie.Need-returns-3
+unfolding judged stepRow
 returns-3 c =
     let a = c .before .before .before .before .before .before .before .before .before .before .before .before .before .before .before .args in
-    judged-refused _ (cursorOf (a .cursor)) (a .next) _ _ (step-row (c .before)) (some-row _ (c .if2 .taken))
+    λ limit. judged-refused _ (cursorOf (a .cursor)) (a .next) _ _ (step-row (c .before)) (some-row _ (c .if2 .taken))
 
 sub-t19 : tie.Need-sub-t19
 unfolding pauliAt
 sub-t19 c = projection-width _ _ _ _ (sym (step-row (c .before .before)) ∙ c .before .if2 .left)
 
 returns-4 : tie.Need-returns-4
+unfolding judged stepRow
 returns-4 c =
     let matched = c .before .before .before .before .before .before .before .before .before in
     let made = matched .before .before .before .before .before in
     let a = made .before .before .args in
-    projection-step _ _ _ _ (cursorOf (a .cursor)) (a .next) (made .pauli .ensures) (norm matched) (sym (step-row (c .before .before)) ∙ c .before .if2 .left)
+    λ limit. projection-step _ _ _ _ (cursorOf (a .cursor)) (a .next) (made .pauli .ensures) (norm matched)
+    (sym (step-row (c .before .before)) ∙ c .before .if2 .left)
 
 pub projection-spec : {M : Type 1} → statement M
 projection-spec =

@@ -1,38 +1,30 @@
 use mathlib.Core.Path.{_≡_, sym, ap, ap₂, _∙_}
 use lib.Dec.{lit<}
-use Rattle.answers.specs.Row.{first, some-row}
+use Rattle.answers.specs.Row.{some-row}
 use Rattle.amplitudelaws.specs.Rows.{unitRow, promotedWidthRow}
+use Rattle.framelaws.specs.Rows.{stepRow}
 use Rattle.runlaws.specs.Bytes.{floatAt}
-use Rattle.steps.specs.Meant.{cursorOf}
-use Rattle.reader.specs.Told.{floatTold}
+use Rattle.runlaws.specs.Reading.{judged}
+use Rattle.steps.specs.Meaning.{cursorOf}
+use Rattle.reader.specs.Meaning.{floatAnswerOf}
 use Rattle.reader.proofs.Judging.{judged-refused, nan-first, nan-second, promotion-width, promotion-unit, promotion-limit, promotion-passed, promotion-step}
 use borrow.Author.Needs.{needs}
 use Rattle.reader.proofs.bodies.promotion.Statement.{statement}
 use Rattle.reader.proofs.bodies.promotion.Tie as tie
 
-row-requires : tie.Need-row-requires
-row-requires c κs = search needs
-
-row-requires-2 : tie.Need-row-requires-2
-row-requires-2 c κs = search needs
-
-first-requires : tie.Need-first-requires
-first-requires c κs = search needs
-
--- 3 and 6, of the width alone
-width-row : (c : tie.After-first) → c .first .result ≡ promotedWidthRow (c .before .before .before .before .before .before .args .cursor .width)
-unfolding promotedWidthRow
-width-row c = c .first .ensures ∙ ap₂ first (c .before .before .before .row .ensures) (c .before .row2 .ensures)
+promoted-width-row-requires : tie.Need-promoted-width-row-requires
+promoted-width-row-requires c κs = search needs
 
 returns : tie.Need-returns
+unfolding judged stepRow
 returns c =
-    let a = c .before .before .before .before .before .before .before .args in
+    let a = c .before .before .before .args in
     let refused = some-row _ (c .if1 .taken) in
-    judged-refused _ (cursorOf (a .cursor)) (a .next) _ _ (promotion-width _ _ _ _ _ (width-row (c .before)) refused) refused
+    judged-refused _ (cursorOf (a .cursor)) (a .next) _ _ (promotion-width _ _ _ _ _ (c .before .promoted-width-row .ensures) refused) refused
 
 -- neither refuses
-narrow : (c : tie.Else1) → promotedWidthRow (c .before .before .before .before .before .before .before .args .cursor .width) ≡ 0
-narrow c = sym (width-row (c .before)) ∙ c .if1 .left
+narrow : (c : tie.Else1) → promotedWidthRow (c .before .before .before .args .cursor .width) ≡ 0
+narrow c = sym (c .before .promoted-width-row .ensures) ∙ c .if1 .left
 
 float-requires : tie.Need-float-requires
 float-requires c κs = search needs
@@ -44,10 +36,11 @@ enum-told : tie.Need-enum-told
 enum-told c = search needs
 
 returns-2 : tie.Need-returns-2
+unfolding judged stepRow
 returns-2 c =
     let passed = c .before .before .before in
-    let a = passed .before .before .before .before .before .before .before .args in
-    let eight = nan-first _ _ (ap floatTold (sym (c .enum-told .given .1)) ∙ c .before .before .float .ensures) in
+    let a = passed .before .before .before .args in
+    let eight = nan-first _ _ (ap floatAnswerOf (sym (c .enum-told .given .1)) ∙ c .before .before .float .ensures) in
     judged-refused _ (cursorOf (a .cursor)) (a .next) _ _ (promotion-unit _ _ _ _ (narrow passed) _ (sym eight) (lit< tt)) (lit< tt)
 
 float-requires-2 : tie.Need-float-requires-2
@@ -60,55 +53,59 @@ enum-told-2 : tie.Need-enum-told-2
 enum-told-2 c = search needs
 
 returns-3 : tie.Need-returns-3
+unfolding judged stepRow
 returns-3 c =
     let passed = c .before .before .before .before .before .before .before in
-    let a = passed .before .before .before .before .before .before .before .args in
-    let eight = nan-second _ _ (ap floatTold (sym (c .enum-told2 .given .1)) ∙ c .before .before .float2 .ensures) in
+    let a = passed .before .before .before .args in
+    let eight = nan-second _ _ (ap floatAnswerOf (sym (c .enum-told2 .given .1)) ∙ c .before .before .float2 .ensures) in
     judged-refused _ (cursorOf (a .cursor)) (a .next) _ _ (promotion-unit _ _ _ _ (narrow passed) _ (sym eight) (lit< tt)) (lit< tt)
 
 unit-row-requires : tie.Need-unit-row-requires
 unit-row-requires c κs = search needs
 
 -- its floats are the body's, and so is their row
-cosine : (c : tie.After-c) → c .c .given .0 .0 ≡ floatAt (c .before .before .before .before .before .before .before .before .before .before .args .body .now) 0
-cosine c = ap floatTold (sym (c .c .given .1)) ∙ c .before .before .float .ensures
+cosine : (c : tie.After-c) → c .c .given .0 .0 ≡ floatAt (c .before .before .before .before .before .before .args .body .now) 0
+cosine c = ap floatAnswerOf (sym (c .c .given .1)) ∙ c .before .before .float .ensures
 
 coefficient : (c : tie.After-q) → let passed = c .before .before .before .before .before .before .before in
-    c .q .given .0 .0 ≡ floatAt (passed .before .before .before .before .before .before .before .args .body .now) 8
-coefficient c = ap floatTold (sym (c .q .given .1)) ∙ c .before .before .float2 .ensures
+    c .q .given .0 .0 ≡ floatAt (passed .before .before .before .args .body .now) 8
+coefficient c = ap floatAnswerOf (sym (c .q .given .1)) ∙ c .before .before .float2 .ensures
 
 unit-row : (c : tie.After-unit-row) → let passed = c .before .before .before .before .before .before .before .before .before in
-    let body = passed .before .before .before .before .before .before .before .args .body .now in
+    let body = passed .before .before .before .args .body .now in
     c .unit-row .result ≡ unitRow (floatAt body 0) (floatAt body 8)
 unit-row c =
     let second = c .before .before in
     c .unit-row .ensures ∙ ap₂ unitRow (cosine (second .before .before .before .before)) (coefficient second)
 
 returns-4 : tie.Need-returns-4
+unfolding judged stepRow
 returns-4 c =
     let passed = c .before .before .before .before .before .before .before .before .before .before in
-    let a = passed .before .before .before .before .before .before .before .args in
+    let a = passed .before .before .before .args in
     let refused = some-row _ (c .if2 .taken) in
     judged-refused _ (cursorOf (a .cursor)) (a .next) _ _ (promotion-unit _ _ _ _ (narrow passed) _ (unit-row (c .before)) refused) refused
 
 returns-5 : tie.Need-returns-5
+unfolding judged stepRow
 returns-5 c =
     let asked = c .before .before .before in
     let passed = asked .before .before .before .before .before .before .before .before .before in
-    let a = passed .before .before .before .before .before .before .before .args in
+    let a = passed .before .before .before .args in
     judged-refused _ (cursorOf (a .cursor)) (a .next) _ _
     (promotion-limit _ _ _ _ (narrow passed) (sym (unit-row asked) ∙ c .before .before .if2 .left) (c .if3 .taken)) (lit< tt)
 
-add-t16 : tie.Need-add-t16
-add-t16 c = search needs
+add-t13 : tie.Need-add-t13
+add-t13 c = search needs
 
 returns-6 : tie.Need-returns-6
+unfolding judged stepRow
 returns-6 c =
     let asked = c .before .before .before .before in
     let second = asked .before .before in
     let matched = second .before .before .before .before in
     let passed = matched .before .before .before in
-    let a = passed .before .before .before .before .before .before .before .args in
+    let a = passed .before .before .before .args in
     let none = promotion-passed (a .limit) (a .cursor .width) _ _ (narrow passed) (sym (unit-row asked) ∙ c .before .before .before .if2 .left) (c .before .if3 .left) in
     promotion-step _ _ _ _ (cursorOf (a .cursor)) (a .next) (cosine matched) (coefficient second) none
 
@@ -116,9 +113,7 @@ pub promotion-spec : {M : Type 1} → statement M
 promotion-spec =
     tie.close
     (tie.spec
-    row-requires
-    row-requires-2
-    first-requires
+    promoted-width-row-requires
     returns
     float-requires
     enum-known-c
@@ -131,5 +126,5 @@ promotion-spec =
     unit-row-requires
     returns-4
     returns-5
-    add-t16
+    add-t13
     returns-6)

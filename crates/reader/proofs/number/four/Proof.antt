@@ -4,7 +4,6 @@ use native.Mathlib.Omega.{arith}
 use Rattle.runlaws.specs.Bytes.{number}
 use Rattle.reader.proofs.number.four.Statement.{statement}
 use Rattle.reader.proofs.number.four.Tie as tie
-use Rattle.reader.proofs.number.wide.Reads as wide-reads
 
 shared-slice-read-wide : tie.Need-shared-slice-read-wide
 shared-slice-read-wide c = search needs

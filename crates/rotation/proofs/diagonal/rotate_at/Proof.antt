@@ -2,7 +2,7 @@ use mathlib.Core.Path.{ap, _∙_}
 use mathlib.Core.Bool.{Bool}
 use Rattle.amplitudelaws.specs.Arithmetic.{negated}
 use Rattle.amplitudelaws.specs.Binary.{binary, Point}
-use Rattle.amplitudelaws.specs.Rotation.{rotatedAlone, rotatedBy}
+use Rattle.amplitudelaws.specs.Rotation.{rotatedAlone}
 use Rattle.amplitudelaws.specs.State.{stateOf, point, setPoint}
 use Rattle.complex.specs.Complex.{complexOf}
 use borrow.Author.Needs.{needs}
@@ -49,7 +49,7 @@ same-length-2 : tie.Need-same-length-2
 same-length-2 c = search needs
 
 returns : tie.Need-returns
-unfolding setPoint point rotatedBy
+unfolding setPoint point
 returns c =
     let start = c .before .before .before .before .before .before .before in
     let a = start .args in

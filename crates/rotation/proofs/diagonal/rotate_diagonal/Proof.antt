@@ -1,5 +1,4 @@
 use mathlib.Core.Path.{_≡_, ap}
-use mathlib.Core.Bool.{true}
 use Prim.Native.Nat.{_+_, _-_, _%_, _^_, _≤_}
 use native.Mathlib.Nat.{le-refl}
 use native.Mathlib.Omega.{arith}
@@ -8,7 +7,7 @@ use Rattle.bitlaws.specs.Digit.{bitOf, one-shifted}
 use Rattle.bitlaws.specs.Parity.{overlap}
 use Rattle.amplitudelaws.specs.Arithmetic.{negated}
 use Rattle.amplitudelaws.specs.Binary.{binary, Point}
-use Rattle.amplitudelaws.specs.Rotation.{rotatedAlone, rotatedBy}
+use Rattle.amplitudelaws.specs.Rotation.{rotatedAlone, rotatedDiagonal}
 use Rattle.amplitudelaws.specs.State.{stateOf, point}
 use Rattle.amplitudelaws.specs.Sweeping.{Sweeping, sweeping-none, one-ahead, one-more, one-all}
 use Rattle.complex.specs.Complex.{complexOf}
@@ -17,9 +16,10 @@ use Rattle.rotation.proofs.diagonal.rotate_diagonal.Tie as tie
 
 abbrev Inv-loop : tie.InvT-loop
 Inv-loop re₀ im₀ nqubits zmask sign c m dim b₀ re im b =
+    let S = stateOf re₀ im₀ in
     (dim ≡ 2 ^ nqubits)
     × (b ≤ dim)
-    × Sweeping (λ j. j) (rotatedBy binary true true 0 zmask (bitOf sign) c (complexOf m) (point (stateOf re₀ im₀))) nqubits (stateOf re₀ im₀) b (stateOf re im)
+    × Sweeping (λ j. j) (rotatedDiagonal binary zmask (bitOf sign) c (complexOf m) (point S)) nqubits S b (stateOf re im)
 
 abbrev μ-loop : tie.MeasureT-loop
 μ-loop re₀ im₀ nqubits zmask sign c m dim b₀ re im b = dim - b
@@ -30,7 +30,7 @@ shl-dim c = omega arith
 loop-holds : tie.Need-loop-holds Inv-loop μ-loop
 loop-holds c =
     let start = c .before .before in
-    (one-shifted 64 (start .args .nqubits) (omega arith), omega arith, sweeping-none (start .pre .1) (start .pre .2))
+    (one-shifted 64 (start .args .nqubits) (omega arith), omega arith, sweeping-none (start .pre .1 .0) (start .pre .1 .1))
 
 rotate-at-requires : tie.Need-rotate-at-requires Inv-loop μ-loop
 rotate-at-requires c κs =
@@ -44,7 +44,6 @@ loop-less : tie.Need-loop-less Inv-loop μ-loop
 loop-less c = omega arith
 
 loop-again : tie.Need-loop-again Inv-loop μ-loop
-unfolding rotatedBy
 loop-again c =
     let called = c .before .before .before .before in
     let at-loop = called .before .before .before .before in

@@ -1,7 +1,7 @@
 use mathlib.Core.Path.{sym, ap, _∙_}
 use native.Mathlib.Omega.{arith}
 use borrow.Author.Needs.{needs}
-use Rattle.bits.specs.Opening.{told, opening-index, opening-past}
+use Rattle.bits.specs.Opening.{openedOf, opening-index, opening-past}
 use Rattle.rotation.proofs.pairs.opened_at.Statement.{statement}
 use Rattle.rotation.proofs.pairs.opened_at.Tie as tie
 
@@ -16,11 +16,11 @@ enum-told c = search needs
 
 returns : tie.Need-returns
 returns c =
-    let past = opening-past _ _ _ (ap told (sym (c .enum-told .given .1)) ∙ c .before .before .insert-zero-bit .ensures) in
+    let past = opening-past _ _ _ (ap openedOf (sym (c .enum-told .given .1)) ∙ c .before .before .insert-zero-bit .ensures) in
     absurd (omega (arith, past))
 
 returns-2 : tie.Need-returns-2
-returns-2 c = opening-index _ _ _ (ap told (sym (c .before .index .given .1)) ∙ c .before .before .before .insert-zero-bit .ensures)
+returns-2 c = opening-index _ _ _ (ap openedOf (sym (c .before .index .given .1)) ∙ c .before .before .before .insert-zero-bit .ensures)
 
 pub opened-at-spec : {M : Type 1} → statement M
 opened-at-spec =

@@ -1,5 +1,4 @@
 use mathlib.Core.Path.{_≡_, ap}
-use mathlib.Core.Bool.{false}
 use Prim.Native.Nat.{ℕ, _+_, _-_, _^_, _≤_}
 use native.Mathlib.Omega.{arith}
 use lib.Bits.{bitXor}
@@ -9,7 +8,7 @@ use Rattle.bitlaws.specs.Pairs.{pairOf}
 use Rattle.bitlaws.specs.Parity.{overlap}
 use Rattle.amplitudelaws.specs.Arithmetic.{direction, scale, mixed}
 use Rattle.amplitudelaws.specs.Binary.{binary, Point}
-use Rattle.amplitudelaws.specs.Rotation.{rotatedBy}
+use Rattle.amplitudelaws.specs.Rotation.{rotatedPairs}
 use Rattle.amplitudelaws.specs.State.{stateOf, point}
 use Rattle.amplitudelaws.specs.Sweeping.{Sweeping, sweeping-none, pair-all}
 use Rattle.complex.specs.Complex.{complexOf}
@@ -19,9 +18,10 @@ use Rattle.rotation.proofs.pairs.rotate_pairs.Tie as tie
 
 abbrev Inv-loop : tie.InvT-loop
 Inv-loop re₀ im₀ nqubits pair-bit xmask zmask sign c m half k₀ re im k =
+    let S = stateOf re₀ im₀ in
     (half ≡ 2 ^ (nqubits - 1))
     × (k ≤ half)
-    × Sweeping (pairOf pair-bit xmask) (rotatedBy binary false false xmask zmask (bitOf sign) c (complexOf m) (point (stateOf re₀ im₀))) nqubits (stateOf re₀ im₀) k (stateOf re im)
+    × Sweeping (pairOf pair-bit xmask) (rotatedPairs binary xmask zmask (bitOf sign) c (complexOf m) (point S)) nqubits S k (stateOf re im)
 
 abbrev μ-loop : tie.MeasureT-loop
 μ-loop re₀ im₀ nqubits pair-bit xmask zmask sign c m half k₀ re im k = half - k
@@ -35,7 +35,7 @@ shl-half c = omega arith
 loop-holds : tie.Need-loop-holds Inv-loop μ-loop
 loop-holds c =
     let start = c .before .before in
-    (one-shifted 64 (start .args .nqubits - 1) (omega arith), omega arith, sweeping-none (start .pre .2) (start .pre .3))
+    (one-shifted 64 (start .args .nqubits - 1) (omega arith), omega arith, sweeping-none (start .pre .2 .0) (start .pre .2 .1))
 
 opened-at-requires : tie.Need-opened-at-requires Inv-loop μ-loop
 opened-at-requires c κs = let pre = c .before .before .before .before .pre in omega (arith, pre .0 .inside, pre .1)
@@ -60,7 +60,6 @@ loop-less : tie.Need-loop-less Inv-loop μ-loop
 loop-less c = omega arith
 
 loop-again : tie.Need-loop-again Inv-loop μ-loop
-unfolding rotatedBy
 loop-again c =
     let called = c .before .before .before .before in
     let to-right = called .before .before .before in

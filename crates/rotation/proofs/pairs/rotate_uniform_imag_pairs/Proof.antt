@@ -7,7 +7,7 @@ use Rattle.bitlaws.specs.Digit.{one-shifted, bit-odd}
 use Rattle.bitlaws.specs.Pairs.{pairOf}
 use Rattle.amplitudelaws.specs.Arithmetic.{negated}
 use Rattle.amplitudelaws.specs.Binary.{binary, Point}
-use Rattle.amplitudelaws.specs.Rotation.{rotatedWith, rotatedBy}
+use Rattle.amplitudelaws.specs.Rotation.{rotatedWith}
 use Rattle.amplitudelaws.specs.State.{stateOf, written}
 use Rattle.amplitudelaws.specs.Sweeping.{Sweeping, sweeping-none, pair-all}
 use Rattle.complex.specs.Complex.{complexOf}
@@ -36,7 +36,7 @@ shl-half c = omega arith
 loop-holds : tie.Need-loop-holds Inv-loop μ-loop
 loop-holds c =
     let start = c .before .before .before in
-    (one-shifted 64 (start .args .nqubits - 1) (omega arith), omega arith, sweeping-none (start .pre .2) (start .pre .3))
+    (one-shifted 64 (start .args .nqubits - 1) (omega arith), omega arith, sweeping-none (start .pre .2 .0) (start .pre .2 .1))
 
 opened-at-requires : tie.Need-opened-at-requires Inv-loop μ-loop
 opened-at-requires c κs = let pre = c .before .before .before .before .before .pre in omega (arith, pre .0 .inside, pre .1)
@@ -75,7 +75,6 @@ same-length-2 : tie.Need-same-length-2 Inv-loop μ-loop
 same-length-2 c = c .before .loop .inv .2 .im .len
 
 returns : tie.Need-returns Inv-loop μ-loop
-unfolding rotatedBy
 returns c =
     let start = c .before .before .before .before .before in
     let a = start .args in

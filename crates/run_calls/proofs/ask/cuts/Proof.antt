@@ -1,4 +1,4 @@
--- `run_calls::ask::cuts` is safe and ends. The measure is what is left of the run. Assumes nothing.
+-- `run_calls::ask::cuts` is safe and ends. The measure is what is left of the run.
 use Prim.Native.Nat.{_-_}
 use native.Mathlib.Omega.{arith}
 use lib.ListN.{length}

@@ -1,4 +1,4 @@
--- `run_calls::both::copy` is safe and ends. The measure is what is left of the floats. Assumes nothing.
+-- `run_calls::both::copy` is safe and ends. The measure is what is left of the floats.
 use Prim.Native.Nat.{_-_}
 use native.Mathlib.Omega.{arith}
 use lib.ListN.{length}

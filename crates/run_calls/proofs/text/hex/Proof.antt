@@ -1,5 +1,5 @@
 -- `run_calls::text::hex` is safe and ends. The output keeps its length, and `i` has not passed the digits; the measure is what is left of
--- them. Assumes nothing.
+-- them.
 use Prim.Native.Nat.{_≤_, _-_}
 use native.Mathlib.Omega.{arith}
 use mathlib.Core.Path.{_≡_}

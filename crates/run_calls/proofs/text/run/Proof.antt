@@ -1,4 +1,4 @@
--- `run_calls::text::run` is safe and ends. The output keeps its length; the measure is what is left of the text. Assumes nothing.
+-- `run_calls::text::run` is safe and ends. The output keeps its length; the measure is what is left of the text.
 use Prim.Native.Nat.{_-_}
 use native.Mathlib.Omega.{arith}
 use mathlib.Core.Path.{_≡_}

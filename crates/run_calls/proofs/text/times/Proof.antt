@@ -1,4 +1,4 @@
--- `run_calls::text::times` is safe and ends. The output keeps its length; the measure is how many times are left. Assumes nothing.
+-- `run_calls::text::times` is safe and ends. The output keeps its length; the measure is how many times are left.
 use Prim.Native.Nat.{_-_}
 use native.Mathlib.Omega.{arith}
 use mathlib.Core.Path.{_≡_}

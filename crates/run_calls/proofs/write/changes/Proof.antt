@@ -1,4 +1,4 @@
--- `run_calls::write::changes` is safe and ends. The measure is what is left of the output. Assumes nothing.
+-- `run_calls::write::changes` is safe and ends. The measure is what is left of the output.
 use Prim.Native.Nat.{_-_}
 use native.Mathlib.Omega.{arith}
 use lib.ListN.{length}

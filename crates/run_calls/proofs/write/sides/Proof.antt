@@ -1,4 +1,4 @@
--- `run_calls::write::sides` is safe and ends. The measure is the number of bases that are left. Assumes nothing.
+-- `run_calls::write::sides` is safe and ends. The measure is the number of bases that are left.
 use Prim.Native.Nat.{_-_}
 use native.Mathlib.Omega.{arith}
 use Rattle.run_calls.proofs.write.sides.Statement.{statement}

@@ -1,0 +1,16 @@
+-- What a call answers and what it leaves in what it was lent, as one value.
+use Prim.Native.Nat.{ℕ}
+use Rattle.answers.specs.Answer.{Answer}
+use Rattle.answers.specs.Row.{answered, left}
+
+pub record Outcome (A B : Type 0) : Type 0 where
+  pub answer : Answer A
+  pub lent : B
+
+-- by the number of a row: refused by it, or done
+abbrev pub byRow : {A B : Type 0} → ℕ → A → B → B → Outcome A B
+byRow r a new old = record { answer = answered r a; lent = left r new old }
+
+-- the answer of a call that has no value to give: what was lent holds it
+pub data Finished : Type 0 where
+  finished : Finished

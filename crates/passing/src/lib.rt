@@ -1,0 +1,30 @@
+// A Pauli taken past one step, as carrying takes it past each step of a run. The call answers for any Pauli
+// and any step: where the two do not suit each other it is refused.
+mod row;
+mod suited;
+
+use activepauli::ActivePauli;
+use steps::Step;
+ghost use mathlib.Core.Path.{_≡_};
+ghost use Rattle.activepauli.specs.Active.{activeOf};
+ghost use Rattle.framelaws.specs.PassRow.{pastCall};
+ghost use Rattle.steps.specs.Meaning.{stepOf};
+ghost use Rattle.passing.specs.Answer.{passAnswerOf};
+
+// The step that the Pauli leaves behind it and the Pauli then; or 3, 4 or 10.
+pub enum PassAnswer {
+    Past(Step, ActivePauli),
+    Refused(u8),
+}
+
+pub fn past(pauli: ActivePauli, step: Step) -> PassAnswer
+    ensures { λ r. ⌜ passAnswerOf r ≡ pastCall (activeOf pauli) (stepOf step) ⌝ }
+{
+    let row = row::pass_row(pauli, step);
+    if row != 0 {
+        return PassAnswer::Refused(row);
+    }
+    let left = suited::carried_step(pauli, step);
+    let behind = suited::passed(pauli, step);
+    PassAnswer::Past(left, behind)
+}

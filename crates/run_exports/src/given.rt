@@ -4,6 +4,7 @@ use crate::seen::SeenField;
 use activepauli::ActivePauli;
 use passing::PassAnswer;
 use steps::Step;
+use steps::tag;
 use verdicts::Verdict;
 ghost use mathlib.Core.Path.{_≡_};
 ghost use Rattle.steps.specs.Meaning.{stepOf};
@@ -35,7 +36,7 @@ pub struct SeenPast {
 pub(crate) fn is_step(given: GivenStep) -> bool
     ensures { λ r. ⌜ r ≡ isStepTag (given .tag) ⌝ }
 {
-    (2 <= given.tag) & (given.tag <= 5)
+    (tag::ROTATION <= given.tag) & (given.tag <= tag::CORRECTION)
 }
 
 // Its step, a flag that is no bit taken for 0. One that has no step's tag is taken for a correction.
@@ -44,13 +45,13 @@ pub(crate) fn step(given: GivenStep) -> Step
 {
     let pauli = given.pauli;
     let flag = given.flag == 1;
-    if given.tag == 2 {
+    if given.tag == tag::ROTATION {
         return Step::Rotation(pauli, flag, given.first, given.second);
     }
-    if given.tag == 3 {
+    if given.tag == tag::PROMOTION {
         return Step::Promotion(given.first, given.second);
     }
-    if given.tag == 4 {
+    if given.tag == tag::PROJECTION {
         return Step::Projection(pauli, given.pivot, flag, given.first);
     }
     Step::Correction(pauli)
@@ -60,10 +61,10 @@ pub(crate) fn step(given: GivenStep) -> Step
 pub(crate) fn bit_row(given: GivenStep) -> u8
     ensures { λ r. ⌜ r ≡ bitRow (stepBack (givenOf given)) ⌝ }
 {
-    if given.tag == 2 {
+    if given.tag == tag::ROTATION {
         return verdicts::flag_row(given.flag);
     }
-    if given.tag == 4 {
+    if given.tag == tag::PROJECTION {
         return verdicts::flag_row(given.flag);
     }
     0

@@ -8,10 +8,11 @@
     runs.py bench < run > text           what the program `bench` prints of a run
     runs.py listings PROGRAM SEED COUNT  COUNT random runs given to PROGRAM (target/bin/bench) as well, and compared so
 
-Written from the scope's text (document 01), which the comments quote, without
-the Rattle's definitions of runs; its writer had seen the Rattle code of reader
-and checker before. It shares no code with the Rattle or the Rust. The kernels'
-steps are those of model.py.
+Written from the scope's text (document 01) and, for quarter turns, from request
+E13 (document 02), which the comments quote, without the Rattle's definitions of
+runs; its writer had seen the Rattle code of reader and checker before. It shares
+no code with the Rattle or the Rust. The kernels' steps are those of model.py; a
+quarter turn is its rotation.
 
 A call is its name, a run, numbers (masks after 0x), then the lent buffers as in
 model.py, a bar before each. A run is hexadecimal digits in pieces with commas
@@ -95,6 +96,9 @@ def step_of(tag, body, width, limit):
         model.check_pauli(pauli, 61)
         return ("correction", pauli), width
     model.check_hermitian(pauli, 61)
+    if tag == 7:
+        # A Hermitian Pauli P, refused by 3 and 7 as in a rotation; it has no flag.
+        return ("quarter-turn", pauli), width
     if tag == 2:
         sign, c, s = struct.unpack("<Bdd", body[17:])
         model.check_units(c, s)
@@ -107,7 +111,7 @@ def step_of(tag, body, width, limit):
     return ("projection", pauli, pivot, branch, invnorm), width - 1
 
 
-LENGTHS = {2: 34, 3: 16, 4: 27, 5: 17}
+LENGTHS = {2: 34, 3: 16, 4: 27, 5: 17, 7: 17}
 
 
 def read(run, at, width, limit):
@@ -172,6 +176,9 @@ def run_step(width, step, re, im, scratch_re, scratch_im):
         model.promote(width, *rest, re, im)
     elif kind == "projection":
         model.project(*rest, re, im, scratch_re, scratch_im)
+    elif kind == "quarter-turn":
+        # A rotation with sign 0 and c and s both h.
+        model.rotate(*rest, 0, model.H, model.H, re, im)
     else:
         model.correct(*rest, re, im)
 
@@ -218,6 +225,9 @@ def passed(pauli, step):
     if kind == "correction":
         # Q's phase rises by 2 when they anticommute.
         return step, raised(pauli, 2 * flips)
+    if kind == "quarter-turn":
+        # Leaves the field unchanged; where Q and P anticommute, Q becomes P·Q with phase raised by 3.
+        return step, raised(product(rest[0], pauli), 3) if flips else pauli
     # Branch flips when Q and M anticommute; call the new branch v. If Q has, at the
     # pivot, an X part (M.x not 0) or a Z part (M.x = 0), Q becomes Q·M with phase
     # raised by 2v. Then the pivot's bit is dropped from both masks.
@@ -357,6 +367,7 @@ def told_past(tag, words, floats):
         3: ("promotion", *floats),
         4: ("projection", pauli, pivot, flag, floats[0]),
         5: ("correction", pauli),
+        7: ("quarter-turn", pauli),
     }
     left, behind = past(Pauli(*words[:4]), made[tag])
     return f"{told_step(left)} {behind.shown()}"
@@ -450,6 +461,10 @@ def correcting(p=X):
     return framed(5, struct.pack("<BQQ", *p))
 
 
+def turning(p=X):
+    return framed(7, struct.pack("<BQQ", *p))
+
+
 END = framed(6, b"")
 
 
@@ -524,6 +539,7 @@ EVERY_KIND = [
     starting(2),
     rotating((1, 1, 3), 1),
     promoting(),
+    turning((1, 5, 6)),
     projecting((0, 5, 0), 2, 1, 0.75),
     correcting((3, 2, 1)),
     projecting((2, 0, 3), 0, 0, 1.25),
@@ -531,6 +547,7 @@ EVERY_KIND = [
 ]
 FROM_NONE = [starting(0), promoting(), projecting(Z), promoting(-0.0, 1.0), correcting(), END]
 DIAGONAL = [starting(1), rotating(Z), projecting(Z, 0, 1, -2.0), correcting(I), END]
+TURNS = [starting(0), turning((2, 0, 0)), promoting(), turning(Y), turning((2, 0, 1)), projecting(X), turning(I), END]
 
 
 def fields(lines):
@@ -547,6 +564,7 @@ def fields(lines):
     lines.ask("field 0600 0", "refused 14 at 0 []")
     lines.ask("field 060000 0", "6 3 []")
     lines.ask("field 060100 0", "refused 14 at 0 []")
+    lines.ask("field 070000 0", "7 3 []")
     lines.ask("field 090001,255*ab 0", "refused 14 at 0 []")
     lines.ask("field 090001,256*ab 0", f"9 259 [{'ab' * 256}]")
 
@@ -571,16 +589,17 @@ def starts(lines):
 def reads(lines):
     lines.say("A read: the step with its Pauli and floats, and the cursor behind it.")
     text = spelled(*EVERY_KIND)
-    for at, width in ((4, 2), (41, 2), (60, 3), (90, 2), (110, 2), (140, 1)):
+    for at, width in ((4, 2), (41, 2), (60, 3), (80, 3), (110, 2), (130, 2), (160, 1)):
         lines.ask(f"step {text} {at} {width} 12")
     lines.ask(f"step {text} 41 2 12", f"promotion {shown(0.6)} {shown(0.8)} 60 3")
-    lines.ask(f"step {text} 90 2 12", "correction 2 3 0x2 0x1 110 2")
-    lines.ask(f"step {text} 140 1 12", "end 143 1")
+    lines.ask(f"step {text} 60 3 12", "quarter-turn 3 1 0x5 0x6 80 3")
+    lines.ask(f"step {text} 110 2 12", "correction 2 3 0x2 0x1 130 2")
+    lines.ask(f"step {text} 160 1 12", "end 163 1")
     lines.say("At the start field, inside a field, at the end, past it, at the largest place.")
-    for at in (0, 1, 5, 142, 143, 144, 2**64 - 2, 2**64 - 1):
+    for at in (0, 1, 5, 162, 163, 164, 2**64 - 2, 2**64 - 1):
         lines.ask(f"step {text} {at} 2 12", f"refused 14 at {at}")
     lines.say("Widths 0 to 12 at each field, 13 past the limit, and a limit of 2 and of 3 at the promotion.")
-    for at in (4, 41, 60, 90, 110, 140):
+    for at in (4, 41, 60, 80, 110, 130, 160):
         for width in (0, 1, 2, 3, 11, 12):
             lines.ask(f"step {text} {at} {width} 12")
         lines.ask(f"step {text} {at} 13 12", f"refused 14 at {at}")
@@ -591,20 +610,29 @@ def reads(lines):
     lines.ask(f"step {text} 41 60 300", f"promotion {shown(0.6)} {shown(0.8)} 60 61")
     for width, row in ((61, 6), (256, 6), (257, 3), (300, 3)):
         lines.ask(f"step {text} 41 {width} 300", f"refused {row} at 41")
+    lines.say("A quarter turn past a rotation's widths: 61 is taken, 6 from 62 on, 3 from 257 on, 7 behind them.")
+    for n, (k, x, z) in ((0, I), (12, Y), (61, (2, 1 << 60, 1))):
+        lines.ask(f"step {spelled(turning((k, x, z)))} 0 {n} 300", f"quarter-turn {n} {k} {x:#x} {z:#x} 20 {n}")
+    for width, row in ((62, 6), (64, 6), (256, 6), (257, 3)):
+        lines.ask(f"step {spelled(turning())} 0 {width} 300", f"refused {row} at 0")
+    for width, row in ((0, 3), (61, 7), (62, 6), (257, 3)):
+        lines.ask(f"step {spelled(turning((1, 1, 0)))} 0 {width} 300", f"refused {row} at 0")
     lines.say("The width's rows come before 8 and 15, and 14 for a width over the limit before them.")
     unfit = spelled(promoting(NAN, 0.8))
     for width, row in ((60, 8), (61, 6), (257, 3)):
         lines.ask(f"step {unfit} 0 {width} 300", f"refused {row} at 0")
         lines.ask(f"step {unfit} 0 {width} 12", "refused 14 at 0")
     lines.say("A cursor over its limit at a good field, at the end field, at a wrong one and past the run; the limit itself is taken.")
-    lines.ask(f"step {text} 90 2 1", "refused 14 at 90")
-    lines.ask(f"step {text} 90 2 2", "correction 2 3 0x2 0x1 110 2")
-    lines.ask(f"step {text} 140 1 0", "refused 14 at 140")
-    lines.ask(f"step {text} 140 1 1", "end 143 1")
-    for at in (0, 5, 143, 2**64 - 1):
+    lines.ask(f"step {text} 110 2 1", "refused 14 at 110")
+    lines.ask(f"step {text} 110 2 2", "correction 2 3 0x2 0x1 130 2")
+    lines.ask(f"step {text} 60 3 2", "refused 14 at 60")
+    lines.ask(f"step {text} 60 3 3", "quarter-turn 3 1 0x5 0x6 80 3")
+    lines.ask(f"step {text} 160 1 0", "refused 14 at 160")
+    lines.ask(f"step {text} 160 1 1", "end 163 1")
+    for at in (0, 5, 163, 2**64 - 1):
         lines.ask(f"step {text} {at} 2 1", f"refused 14 at {at}")
-    lines.ask(f"step {text} 140 {2**64 - 1} {2**64 - 2}", "refused 14 at 140")
-    lines.ask(f"step {text} 140 {2**64 - 1} {2**64 - 1}", f"end 143 {2**64 - 1}")
+    lines.ask(f"step {text} 160 {2**64 - 1} {2**64 - 2}", "refused 14 at 160")
+    lines.ask(f"step {text} 160 {2**64 - 1} {2**64 - 1}", f"end 163 {2**64 - 1}")
     lines.ask(f"step {text} 41 60 60", "refused 15 at 41")
     lines.ask(f"step {text} 41 61 61", "refused 6 at 41")
 
@@ -613,9 +641,10 @@ def accepted(lines):
     lines.say("Accepted: last width, steps, greatest width, amplitudes that the scratch must hold.")
     for n in range(13):
         lines.ask(check_line(starting(n), END), f"run {n} 0 {n} 0")
-    lines.ask(check_line(*EVERY_KIND), "run 1 5 3 4")
+    lines.ask(check_line(*EVERY_KIND), "run 1 6 3 4")
     lines.ask(check_line(*FROM_NONE), "run 1 4 1 0")
     lines.ask(check_line(*DIAGONAL), "run 0 3 1 0")
+    lines.ask(check_line(*TURNS), "run 0 6 1 1")
     lines.say("The largest state left by a projection with x not 0, first or last of several; none with x = 0.")
     small, large = projecting((0, 1, 0)), projecting((0, 8, 0), 3)
     diagonal = projecting((0, 0, 1))
@@ -638,6 +667,12 @@ def accepted(lines):
     lines.say("A correction's phase is any of 0 to 3, Hermitian or not.")
     for k in range(4):
         lines.ask(check_line(starting(1), correcting((k, 1, 1)), END), "run 1 1 1 0")
+    lines.say("A quarter turn's Pauli is any Hermitian one, the identity too; it asks for no scratch. A Y's phase is odd, 7 else.")
+    top = 1 << 11
+    for n, p in ((0, I), (0, (2, 0, 0)), (2, (2, 3, 3)), (2, (0, 3, 0)), (12, (3, top, top))):
+        lines.ask(check_line(starting(n), turning(p), END), f"run {n} 1 {n} 0")
+    for k, told in enumerate(("refused 7 at 4", "run 1 1 1 0") * 2):
+        lines.ask(check_line(starting(1), turning((k, 1, 1)), END), told)
 
 
 def single_rows(lines):
@@ -665,6 +700,10 @@ def single_rows(lines):
         ("A correction at width 2", correcting, {
             3: [dict(p=p) for p in ((4, 1, 0), (255, 0, 0), (0, 4, 0), (0, 0, 4), (0, 1 << 63, 0), (0, 0, 1 << 63))],
         }),
+        ("A quarter turn at width 2", turning, {
+            3: [dict(p=p) for p in ((4, 1, 0), (255, 1, 0), (0, 4, 0), (0, 0, 4), (0, 1 << 63, 0), (0, 0, 1 << 63))],
+            7: [dict(p=p) for p in ((1, 1, 0), (3, 0, 1), (0, 1, 1), (2, 3, 1), (1, 3, 3), (1, 0, 0))],
+        }),
     ]
     for name, make, rows in cases:
         for row, faults in rows.items():
@@ -682,6 +721,11 @@ def rows_together(lines):
         made = rotating(p, 2 if 14 in rows else 0, NAN if 8 in rows else 0.6)
         line = check_line(starting(2), made, END)
         lines.ask(line, refusal_of(rows, 4) if rows else "run 2 1 2 0")
+    lines.say("A quarter turn by 3 and 7.")
+    for rows in subsets([3, 7]):
+        line = check_line(starting(2), turning((1 if 7 in rows else 0, 5 if 3 in rows else 1, 0)), END)
+        lines.ask(line, refusal_of(rows, 4) if rows else "run 2 1 2 0")
+    lines.ask(check_line(starting(2), turning((5, 1, 0)), END), "refused 3 at 4")
     lines.say("A projection by 3, 7, 8, 10, 11, 14, and by 12 for 10.")
     for pivot in (0, 1, 2):
         for rows in subsets([3, 7, 8, 11, 14]):
@@ -710,15 +754,19 @@ def rows_together(lines):
     lines.ask(check_line(starting(1), correcting((0, 2, 0)), promoting(), END), "refused 3 at 4")
     lines.ask(check_line(starting(1), promoting(), correcting((0, 2, 0)), END), "run 2 2 2 0")
     lines.ask(check_line(starting(2), projecting(), correcting((0, 2, 0)), END), "refused 3 at 34")
+    lines.ask(check_line(starting(1), turning((0, 0, 2)), promoting(), END), "refused 3 at 4")
+    lines.ask(check_line(starting(1), promoting(), turning((0, 0, 2)), END), "run 2 2 2 0")
+    lines.ask(check_line(starting(2), projecting(), turning((0, 0, 2)), END), "refused 3 at 34")
+    lines.ask(check_line(starting(1), projecting(), turning((1, 0, 0)), END), "refused 7 at 34")
     lines.ask(check_line(starting(1), projecting(), projecting(), END), "refused 3 at 34")
     lines.ask(check_line(starting(1), projecting(), projecting(I), END), "refused 9 at 34")
     lines.ask(check_line(starting(2), projecting((0, 3, 0), 1), projecting((0, 1, 0), 1), END), "refused 10 at 34")
 
 
 def wrong_fields(lines):
-    good = {2: rotating(), 3: promoting(), 4: projecting(), 5: correcting()}
+    good = {2: rotating(), 3: promoting(), 4: projecting(), 5: correcting(), 7: turning(Z)}
     lines.say("A field wrong in tag, whatever its body.")
-    for tag in (0, 7, 8, 128, 255):
+    for tag in (0, 8, 9, 128, 255):
         for field_of in good.values():
             text = spelled(starting(2), bytes([tag]) + field_of[1:], END)
             lines.ask(f"check {text}", "refused 14 at 4")
@@ -726,9 +774,13 @@ def wrong_fields(lines):
     lines.say("A step of another kind's length.")
     for tag in good:
         for other, field_of in good.items():
-            if other != tag:
+            if other != tag and {other, tag} != {5, 7}:
                 text = spelled(starting(2), bytes([tag]) + field_of[1:], END)
                 lines.ask(f"check {text}", "refused 14 at 4")
+    lines.say("A correction and a quarter turn have one length: with the other's tag it is the other, and 7 looks at a quarter turn alone.")
+    for p, told in ((Y, "run 2 1 2 0"), ((1, 1, 0), "refused 7 at 4"), ((0, 1, 1), "refused 7 at 4")):
+        lines.ask(check_line(starting(2), b"\7" + correcting(p)[1:], END), told)
+        lines.ask(check_line(starting(2), b"\5" + turning(p)[1:], END), "run 2 1 2 0")
     lines.say("Wrong in length by one, empty, and with 256 bytes more (the length's high byte).")
     for tag, field_of in good.items():
         body = field_of[3:]
@@ -736,6 +788,7 @@ def wrong_fields(lines):
             lines.ask(check_line(starting(2), framed(tag, wrong), END), "refused 14 at 4")
     lines.say("The same with a body that other rows would refuse: 14.")
     bad = [rotating((4, 5, 0), 2, NAN), promoting(NAN, 2.0), projecting((4, 0, 0), 9, 9, NAN), correcting((9, 9, 9))]
+    bad += [turning((9, 9, 9)), turning((1, 1, 0))]
     for field_of in bad:
         body = field_of[3:]
         for wrong in (body[:-1], body + b"\0"):
@@ -746,9 +799,9 @@ def wrong_fields(lines):
 
 def wrong_places(lines):
     lines.say("The first field is no start: 14 at 0.")
-    for first in (rotating(), promoting(), projecting(), correcting(), END):
+    for first in (rotating(), promoting(), projecting(), correcting(), turning(), END):
         lines.ask(check_line(first, starting(2), END), "refused 14 at 0")
-    for first in (framed(1, b""), framed(1, b"\2\0"), framed(0, b"\2"), framed(6, b"\2")):
+    for first in (framed(1, b""), framed(1, b"\2\0"), framed(0, b"\2"), framed(6, b"\2"), framed(7, b"\2")):
         lines.ask(check_line(first, END), "refused 14 at 0")
     lines.say("n over 12.")
     for n in (13, 14, 64, 128, 255):
@@ -757,19 +810,22 @@ def wrong_places(lines):
     lines.ask(check_line(starting(2), starting(2), END), "refused 14 at 4")
     lines.ask(check_line(starting(2), starting(13), END), "refused 14 at 4")
     lines.ask(check_line(starting(2), correcting(), starting(1), END), "refused 14 at 24")
+    lines.ask(check_line(starting(2), turning(), starting(1), END), "refused 14 at 24")
     lines.say("No end: 14 at the run's length. Nothing at all: 14 at 0.")
     lines.ask(check_line(), "refused 14 at 0")
     lines.ask(check_line(starting(2)), "refused 14 at 4")
     lines.ask(check_line(starting(2), correcting()), "refused 14 at 24")
-    lines.ask(check_line(*EVERY_KIND[:-1]), "refused 14 at 140")
+    lines.ask(check_line(starting(2), turning()), "refused 14 at 24")
+    lines.ask(check_line(*EVERY_KIND[:-1]), "refused 14 at 160")
     lines.say("An end with a body; one or two stray bytes; a tag's length cut.")
     lines.ask(check_line(starting(2), framed(6, bytes(1))), "refused 14 at 4")
     lines.ask(check_line(starting(2), framed(6, bytes(1)), END), "refused 14 at 4")
     lines.ask(check_line(starting(2), correcting(), framed(6, bytes(3)), END), "refused 14 at 24")
-    for stray in (b"\6", b"\5", b"\0", b"\6\0", b"\5\x11", b"\xff\xff", b"\6\1\0", b"\5\x11\0"):
+    strays = (b"\6", b"\5", b"\0", b"\6\0", b"\5\x11", b"\xff\xff", b"\6\1\0", b"\5\x11\0", b"\7", b"\7\x11", b"\7\x11\0")
+    for stray in strays:
         lines.ask(check_line(starting(2), correcting(), stray), "refused 14 at 24")
     lines.say("Bytes past the end: 14 at the first of them, whatever they are.")
-    for past in (b"\0", b"\6", b"\6\0", END, correcting(), correcting((9, 9, 9)), starting(2) + END):
+    for past in (b"\0", b"\6", b"\6\0", END, correcting(), correcting((9, 9, 9)), starting(2) + END, turning(), b"\7"):
         lines.ask(check_line(starting(2), correcting(), END, past), "refused 14 at 27")
     lines.ask(check_line(starting(2), END, END), "refused 14 at 7")
 
@@ -781,6 +837,7 @@ def two_fields(lines):
         (8, promoting(2.0)), (3, projecting((0, 1, 4))), (7, projecting((1, 1, 0))), (8, projecting(X, 0, 0, NAN)),
         (10, projecting(X, 2)), (11, projecting(I)), (12, projecting(X, 1)), (14, projecting(X, 0, 2)),
         (3, correcting((4, 0, 0))), (14, framed(7, b"")), (14, framed(5, bytes(16))), (14, starting(2)),
+        (3, turning((4, 1, 0))), (7, turning((1, 1, 0))),
     ]
     lines.say("Faults in two fields: the first in the file, though the second has a lower number.")
     for row, first in at_two:
@@ -798,11 +855,13 @@ def two_fields(lines):
 
 def cuts(lines):
     lines.say("Cut at every byte: runs that hold every kind of step.")
-    for run in (EVERY_KIND, FROM_NONE, DIAGONAL, [starting(12), END]):
+    for run in (EVERY_KIND, FROM_NONE, DIAGONAL, TURNS, [starting(12), END]):
         lines.ask(f"cuts {spelled(*run)}")
     lines.ask(f"cuts {spelled(starting(2), END)}", "refused 14 at 0," * 4 + "refused 14 at 4," * 3)
     lines.say("Cut behind a field that is refused: its own refusal from there on.")
     lines.ask(f"cuts {spelled(starting(2), correcting((4, 0, 0)), END)}")
+    cut = "refused 14 at 0," * 4 + "refused 14 at 4," * 20
+    lines.ask(f"cuts {spelled(starting(2), turning((1, 1, 0)), END)}", cut + "refused 7 at 4," * 3)
 
 
 def lengths(lines):
@@ -844,9 +903,36 @@ def lengths(lines):
     lines.ask(check_line(starting(1), END, (65529, bytes(1))), "refused 14 at 7")
     lines.ask(check_line(starting(1), END, (65530, bytes(1))), "refused 14 at 0")
     lines.ask(check_line((65536, bytes(1))), "refused 14 at 0")
+    turns_at_length(lines)
     lines.say("A field that claims 65,535 bytes.")
     lines.ask(check_line(starting(1), bytes([5, 255, 255]), (65529, bytes(1))), "refused 14 at 4")
     lines.ask(check_line(starting(1), bytes([5, 255, 255]), (17, bytes(1)), END), "refused 14 at 4")
+
+
+def turns_at_length(lines):
+    """Quarter turns of Z up to the last byte: four of them take X to Y, -X, -Y and back to X."""
+    state = [1.0, 0.0], [0.0, -0.0]
+    turns = lambda count: spelled(starting(1), (count, turning(Z)), END)
+    lines.say("Quarter turns alone: 3,276 are 65,527 bytes, the most that there is room for; 3,275 leave -Y of X.")
+    lines.ask(f"check {turns(3276)}", "run 1 3276 1 0")
+    lines.ask(run_line(turns(3276), *state))
+    lines.ask(carry_line(turns(3276), 1, X, 65527), "carried 1 0 0x1 0x0 kept")
+    lines.ask(carry_line(turns(3275), 1, X, 65527), "carried 1 3 0x1 0x1 kept")
+    lines.ask(carry_line(turns(3276), 1, X, 65526), "refused 16 kept")
+    lines.ask(f"check {turns(3277)}", "refused 14 at 0")
+    lines.say("65,536 bytes of rotations by X and of quarter turns, 3,245 of them: whole rounds and one more.")
+    longest = spelled(starting(1), (17, rotating()), (3245, turning(Z)), END)
+    assert length(longest) == LONGEST
+    lines.ask(f"check {longest}", "run 1 3262 1 0")
+    lines.ask(run_line(longest, *state))
+    signs = "".join(f" {4 + 37 * place + 20}:01" for place in range(17))
+    for p, end in ((X, "1 0x1 0x1 kept"), (Z, f"0 0x0 0x1{signs} kept"), (Y, f"2 0x1 0x0{signs} kept")):
+        lines.ask(carry_line(longest, 1, p, LONGEST), f"carried 1 {end}")
+    lines.ask(f"step {longest} 65513 1 12", "quarter-turn 1 0 0x0 0x1 65533 1")
+    lines.say("One not Hermitian at the end of 65,536 bytes; one byte more than 65,536.")
+    most = (3244, turning(Z))
+    lines.ask(check_line(starting(1), (17, rotating()), most, turning((1, 0, 1)), END), "refused 7 at 65513")
+    lines.ask(check_line(starting(1), (10, rotating()), (3258, turning(Z)), END), "refused 14 at 0")
 
 
 def room(lines):
@@ -876,8 +962,11 @@ def room(lines):
     mixing = spelled(starting(1), projecting(), END)
     for m, n in ((1, 1), (0, 1), (1, 0)):
         lines.ask(run_line(mixing, [1.0, 2.0], [3.0, 4.0], m, n))
+    turned = spelled(starting(1), turning(), END)
+    lines.ask(run_line(turned, [1.0], [3.0, 4.0]), f"refused 13 |{floats([1.0])} |{floats([3.0, 4.0])} | |")
+    lines.ask(run_line(turned, [1.0, 2.0], [3.0]), f"refused 13 |{floats([1.0, 2.0])} |{floats([3.0])} | |")
     lines.say("The run's own refusal, with its place, before 13. All buffers are kept.")
-    for last in (correcting((4, 0, 0)), promoting(NAN), projecting(X, 3), framed(9, b""), b"\6"):
+    for last in (correcting((4, 0, 0)), promoting(NAN), projecting(X, 3), framed(9, b""), b"\6", turning((1, 1, 0))):
         refused_run = spelled(*grown[:-1], last, END)
         lines.ask(run_line(refused_run, re, im, 2, 2))
         lines.ask(run_line(refused_run, [], []))
@@ -905,16 +994,20 @@ def values(lines):
         for step in steps:
             past = [9.0, 9.5, 9.25, 9.75, 10.0]
             lines.ask(run_line(spelled(starting(2), step, END), re + past, im + past, 3, 2))
+    quarter_turns(lines, states)
     lines.say("Every kind in a row.")
     for re, im in states:
-        for run in (EVERY_KIND, [starting(2), *EVERY_KIND[1:4], *EVERY_KIND[2:4], END]):
+        for run in (EVERY_KIND, [starting(2), *EVERY_KIND[1:5], *EVERY_KIND[2:5], END]):
             lines.ask(run_line(spelled(*run), re + [3.0] * 4, im + [4.0] * 4, 4, 4))
     lines.ask(run_line(spelled(*FROM_NONE), [0.5, 1.0], [-0.25, 2.0]))
+    lines.ask(run_line(spelled(*TURNS), [0.5, 1.0], [-0.25, 2.0], 1, 1))
     lines.ask(run_line(spelled(*DIAGONAL), [0.5, 1.0, 3.0], [-0.25, 2.0, 4.0], 1))
     lines.say("Seven qubits and back.")
     wide = [rotating((0, 0x55, 0x2A), 1), projecting((1, 0x60, 0x41), 6, 1, 1.25), promoting(), rotating((0, 0, 0x7F))]
     rng = random.Random(7)
     lines.ask(run_line(spelled(starting(7), *wide, END), *random_state(rng, 7), 64, 64))
+    turns = [turning((1, 0x55, 0x60)), turning((2, 0, 0x7F)), turning((0, 0x41, 0))]
+    lines.ask(run_line(spelled(starting(7), *turns, END), *random_state(rng, 7)))
     lines.say("The scope's examples: X fired on (1, 0); (1, 0) promoted with c 0, q 1.")
     lines.ask(
         run_line(spelled(starting(1), correcting(), END), [1.0, 0.0], [0.0, 0.0]),
@@ -924,6 +1017,41 @@ def values(lines):
         run_line(spelled(starting(0), promoting(0.0, 1.0), END), [1.0, 7.0], [0.0, 7.0]),
         f"finished 1 1 |{floats([0.0, -0.0])} |{floats([0.0, 1.0])} | |",
     )
+
+
+def quarter_turns(lines, states):
+    """A quarter turn, and beside it the rotation with sign 0 and c and s both h: the same answer."""
+    h = model.H
+    paulis = [(0, 0, 3), (2, 0, 3), (0, 2, 0), (2, 3, 0), (1, 3, 1), (3, 1, 3), (2, 3, 3), (2, 0, 0)]
+    for place, some in ((1, paulis[::2]), (2, paulis[1::2]), (3, paulis[1:6])):
+        re, im = states[place]
+        lines.say(f"Quarter turns on state {place + 1} of {len(states)}, each beside the rotation that it is.")
+        for p in some:
+            past = [9.0, 9.5]
+            turned, rotated = (
+                run_line(spelled(starting(2), step, END), re + past, im + past[:1], 1, 2)
+                for step in (turning(p), rotating(p, 0, h, h))
+            )
+            lines.ask(turned)
+            lines.ask(rotated, answer(turned))
+    lines.say("Z, X and Y on (1, 0), -Y on it, and X twice; on no qubit, with either sign. By hand.")
+    told = lambda count, re, im: f"finished 1 {count} |{floats(re)} |{floats(im)} | |"
+    for p, re, im in (
+        (Z, [h, 0.0], [-h, 0.0]),
+        (X, [h, 0.0], [0.0, -h]),
+        (Y, [h, h], [0.0, 0.0]),
+        ((3, 1, 1), [h, -h], [0.0, 0.0]),
+    ):
+        lines.ask(run_line(spelled(starting(1), turning(p), END), [1.0, 0.0], [0.0, 0.0]), told(1, re, im))
+    twice = [h * h - h * h, 0.0], [0.0, -(h * h) - h * h]
+    lines.ask(run_line(spelled(starting(1), (2, turning()), END), [1.0, 0.0], [0.0, 0.0]), told(2, *twice))
+    for k, im in ((0, -h), (2, h)):
+        line = run_line(spelled(starting(0), turning((k, 0, 0)), END), [1.0], [0.0])
+        lines.ask(line, f"finished 0 1 |{floats([h])} |{floats([im])} | |")
+    lines.say("The run of the README, with a quarter turn for its rotation.")
+    bell = [h, -0.0, 0.0, -0.0], [0.0, -0.0, 0.0, h]
+    line = run_line(spelled(starting(2), turning((0, 3, 0)), correcting(Z), END), [1.0, 0.0, 0.0, 0.0], [0.0] * 4)
+    lines.ask(line, f"finished 2 2 |{floats(bell[0])} |{floats(bell[1])} | |")
 
 
 def carrying(lines):
@@ -972,6 +1100,7 @@ def carrying(lines):
                 text = spelled(starting(1), correcting(((k + phase) % 4, x, z)), END)
                 lines.ask(carry_line(text, 1, q, 27))
         lines.ask(carry_line(spelled(starting(1), promoting(), END), 1, q, 26))
+    carrying_turns(lines)
     lines.say("Dropping the pivot of two and three qubits: lowest, middle, highest.")
     for pivot in range(3):
         for q in ((1, 7, 5), (2, 5, 7), (0, 2, 5), (3, 5, 2), (0, 7, 0), (0, 0, 7)):
@@ -987,6 +1116,10 @@ def carrying(lines):
     text = spelled(starting(12), rotating((0, top, 1)), projecting((0, top, 1), 11, 1), promoting(), END)
     for q in ((0, 0, top), (2, top, 0), (1, 4095, 4095), (3, 0, 4095)):
         lines.ask(carry_line(text, 12, q, 100))
+    text = spelled(starting(12), turning((0, top, 1)), turning((0, 0, top)), END)
+    ends = [((0, 0, top), "0 0x800 0x1"), ((0, top, 0), "1 0x800 0x800"), ((2, 0, 1), "2 0x0 0x1"), ((0, 1, 0), "2 0x801 0x801")]
+    for q, end in ends:
+        lines.ask(carry_line(text, 12, q, 100), f"carried 12 {end} kept")
     lines.say("The scope's examples: X past a Z rotation; Z, X, Y past an X projection.")
     examples = [
         (rotating(Z, 0), X, "carried 1 0 0x1 0x0 24:01 kept"),
@@ -998,6 +1131,83 @@ def carrying(lines):
         lines.ask(carry_line(spelled(starting(1), step, END), 1, q, 44), told)
 
 
+# What a quarter turn of P makes of Q where the two anticommute, -i P·Q, by the book's Z·X = i Y, X·Y = i Z, Y·Z = i X.
+TURNED = {
+    ("Z", "X"): "Y", ("Z", "Y"): "-X",
+    ("X", "Y"): "Z", ("X", "Z"): "-Y",
+    ("Y", "Z"): "X", ("Y", "X"): "-Z",
+}
+LETTERS = {"I": I, "X": X, "Y": Y, "Z": Z}
+
+
+def negative(name):
+    return name[1:] if name.startswith("-") else "-" + name
+
+
+def pauli_named(name):
+    """A letter, or its negative: a phase of 2 more."""
+    k, x, z = LETTERS[name[-1]]
+    return (k + 2) % 4 if name[0] == "-" else k, x, z
+
+
+def carrying_turns(lines):
+    told = lambda n, k, x, z: f"carried {n} {k} {x:#x} {z:#x} kept"
+    lines.say("Quarter turns of I, X, Y, Z and of their negatives: the field stays, the Pauli turns.")
+    for name in ("I", "X", "Y", "Z"):
+        for minus in (False, True):
+            text = spelled(starting(1), turning(pauli_named("-" * minus + name)), END)
+            for q in ("I", "X", "Y", "Z"):
+                end = TURNED.get((name, q))
+                end = q if end is None else negative(end) if minus else end
+                lines.ask(carry_line(text, 1, pauli_named(q), 27), told(1, *pauli_named(end)))
+    lines.say("A phase of the Pauli stays in front; what lies past the run is kept, and a short output.")
+    text = spelled(starting(1), turning(Z), END)
+    for k in range(1, 4):
+        lines.ask(carry_line(text, 1, (k, 1, 0), 27 + k), told(1, (k + 1) % 4, 1, 1))
+        lines.ask(carry_line(text, 1, (k, 0, 1), 27), told(1, k, 0, 1))
+    lines.ask(carry_line(text, 1, X, 26), "refused 16 kept")
+    lines.ask(carry_line(spelled(starting(1), turning((0, 1, 1)), END), 1, X, 27), "refused 7 at 4 kept")
+    lines.say("On no qubit: the Pauli stays.")
+    for k in range(4):
+        for minus in (0, 2):
+            lines.ask(carry_line(spelled(starting(0), turning((minus, 0, 0)), END), 0, (k, 0, 0), 27), told(0, k, 0, 0))
+    lines.say("In a row: X past Z, Z; past Z four times; past Z, X; past Z and -Z; Z past X, Y.")
+    minus_z = (2, 0, 1)
+    for q, turns, end in (
+        (X, [Z, Z], (2, 1, 0)), (X, [Z] * 4, X), (X, [Z, X], Z), (X, [Z, minus_z], X), (Z, [X, Y], (3, 1, 1)),
+    ):
+        text = spelled(starting(1), *map(turning, turns), END)
+        lines.ask(carry_line(text, 1, q, 100), told(1, *end))
+    lines.say("Before the other kinds: what is carried past them is Y, which X became; and behind them.")
+    first = [starting(1), turning(Z)]
+    behind = [
+        ([*first, rotating(X)], X, "1 1 0x1 0x1 44:01"),
+        ([*first, rotating(Y)], X, "1 1 0x1 0x1"),
+        ([*first, correcting(X)], X, "1 3 0x1 0x1"),
+        ([*first, promoting()], X, "2 1 0x1 0x1"),
+        ([*first, projecting(X)], X, "0 1 0x0 0x0 45:01"),
+        ([*first, projecting(Y)], X, "0 0 0x0 0x0"),
+        ([*first, projecting(Z)], X, "0 3 0x0 0x0 45:01"),
+        ([starting(1), rotating(Z), turning(Z)], X, "1 1 0x1 0x1 24:01"),
+        ([starting(1), correcting(Z), turning(Z)], X, "1 3 0x1 0x1"),
+        ([starting(0), promoting(), turning((0, 1, 0))], (3, 0, 0), "1 3 0x0 0x0"),
+        ([starting(2), projecting((0, 0, 1)), turning(Z)], (0, 2, 0), "1 1 0x1 0x1"),
+    ]
+    for run, q, end in behind:
+        n = run[0][3]
+        lines.ask(carry_line(spelled(*run, END), n, q, 100), f"carried {end} kept")
+    lines.say("Two qubits: ZZ past XI is -YZ, past XX it stays; XX past ZI is YX; XI past -ZZ is -YZ; ZI past YY is XY; YX past ZZ stays.")
+    for q, p, end in (
+        ((0, 0, 3), (0, 1, 0), (3, 1, 3)),
+        ((0, 0, 3), (0, 3, 0), (0, 0, 3)),
+        ((0, 3, 0), (0, 0, 1), (1, 3, 1)),
+        ((0, 1, 0), (2, 0, 3), (3, 1, 3)),
+        ((0, 0, 1), (2, 3, 3), (1, 3, 2)),
+        ((1, 3, 1), (0, 0, 3), (1, 3, 1)),
+    ):
+        lines.ask(carry_line(spelled(starting(2), turning(p), END), 2, q, 27), told(2, *end))
+
+
 def passes(lines):
     lines.say("A Pauli past one step: 01's X past a Z rotation; Z, X, Y past an X projection; X past a Z correction.")
     one = (1, *X)
@@ -1007,6 +1217,10 @@ def passes(lines):
         lines.ask(pass_line((1, *q), 4, one, branch, 0, (1.0, 0.0)), told)
     lines.ask(pass_line(one, 5, (1, *Z)), "correction 1 0 0x0 0x1 1 2 0x1 0x0")
     lines.ask(pass_line((1, *Y), 3), f"promotion {shown(0.6)} {shown(0.8)} 2 1 0x1 0x1")
+    lines.say("X past a quarter turn of Z is Y, Y is -X, Z stays. A flag, a pivot and floats, which it does not have, are not looked at.")
+    for q, end in ((X, "1 0x1 0x1"), (Y, "2 0x1 0x0"), (Z, "0 0x0 0x1")):
+        for rest in ((), (1, 300, (NAN, INFINITY))):
+            lines.ask(pass_line((1, *q), 7, (1, *Z), *rest), f"quarter-turn 1 0 0x0 0x1 1 {end}")
     lines.say("Each Pauli of one qubit and each phase past each kind of step, with either flag.")
     for place in range(16):
         q = (1, place % 4, place >> 2 & 1, place >> 3)
@@ -1014,6 +1228,11 @@ def passes(lines):
             for tag, flag in ((2, 0), (2, 1), (4, 0), (4, 1), (5, 0)):
                 lines.ask(pass_line(q, tag, (1, *p), flag))
         lines.ask(pass_line(q, 3))
+    lines.say("The same past quarter turns, of a P that is Hermitian where Q's phase is 0 or 1, and else is not: nobody asks here.")
+    for place in range(16):
+        q = (1, place % 4, place >> 2 & 1, place >> 3)
+        for k, x, z in (I, X, Y, Z):
+            lines.ask(pass_line(q, 7, (1, (k + q[1] // 2) % 4, x, z)))
     lines.say("No Pauli: the one that is carried, the step's, both. 3 before 4 and 10.")
     none = [(2, *p) for p in ((4, 0, 0), (255, 0, 0), (0, 4, 0), (0, 0, 4), (0, 1 << 63, 0))]
     none += [(257, *I), (2**64 - 1, *I), (0, 0, 0, 1), (63, 0, 1 << 63, 0)]
@@ -1023,11 +1242,14 @@ def passes(lines):
                 lines.ask(pass_line(bad, tag, other, 0, 300), "refused 3")
                 lines.ask(pass_line(other, tag, bad, 0, 300), "refused 3")
         lines.ask(pass_line(bad, 3), "refused 3")
+        lines.ask(pass_line(bad, 7, (2, *I)), "refused 3")
+        lines.ask(pass_line((2, *I), 7, bad), "refused 3")
     lines.say("On other qubits: 4, before 10.")
     for a, b in ((0, 1), (1, 0), (2, 3), (64, 65), (256, 255)):
         for tag in (2, 4, 5):
             for pivot in (0, 300):
                 lines.ask(pass_line((a, *I), tag, (b, *I), 0, pivot), "refused 4")
+        lines.ask(pass_line((a, *I), 7, (b, *I)), "refused 4")
     lines.say("A pivot at the width and past it, and the highest that there is: 10 from the width on, at no qubit too.")
     for n in (0, 1, 2, 64, 65, 256):
         for pivot in (n, n + 1, 300, 2**64 - 1):
@@ -1052,11 +1274,33 @@ def passes(lines):
                 lines.ask(pass_line((n, 1, x, z), tag, (n, 0, z, full), 1, 63))
     for pivot in (64, 100, 255):
         lines.ask(pass_line((256, 1, full, full), 4, (256, 0, full, 0), 1, pivot))
+    passes_of_turns(lines)
     lines.say("Steps that no run has: their own kernels' rows are not looked at.")
     lines.ask(pass_line(one, 2, (1, 1, 0, 1), 0, 0, (NAN, INFINITY)))
     lines.ask(pass_line(one, 4, (1, 1, 1, 0), 0, 0, (NAN, 0.0)))
     lines.ask(pass_line((2, 0, 3, 3), 4, (2, 0, 1, 0), 1, 1, (INFINITY, 0.0)))
     lines.ask(pass_line((62, 0, 1, 0), 5, (62, 0, 0, 1)), "correction 62 0 0x0 0x1 62 2 0x1 0x0")
+
+
+def passes_of_turns(lines):
+    """A quarter turn at the widths where a mask's word ends, and of Paulis that no rotation takes."""
+    lines.say("A quarter turn of Z on the top qubit of a word or below: X there becomes Y, Z stays. On no qubit all stays.")
+    for n in (1, 63, 64, 65, 256):
+        top = 1 << min(n, 64) - 1
+        turned = f"quarter-turn {n} 0 0x0 {top:#x} {n}"
+        lines.ask(pass_line((n, 0, top, 0), 7, (n, 0, 0, top)), f"{turned} 1 {top:#x} {top:#x}")
+        lines.ask(pass_line((n, 3, 0, top), 7, (n, 0, 0, top)), f"{turned} 3 0x0 {top:#x}")
+    for k in range(4):
+        lines.ask(pass_line((0, k, 0, 0), 7, (0, k ^ 2, 0, 0)), f"quarter-turn 0 {k ^ 2} 0x0 0x0 0 {k} 0x0 0x0")
+    lines.say("X on 63 qubits past Z on them, an odd number: -Y on all. On 64, an even one: kept.")
+    odd, even = 2**63 - 1, 2**64 - 1
+    for n in (64, 256):
+        lines.ask(pass_line((n, 0, odd, 0), 7, (n, 0, 0, odd)), f"quarter-turn {n} 0 0x0 {odd:#x} {n} 1 {odd:#x} {odd:#x}")
+        lines.ask(pass_line((n, 0, even, 0), 7, (n, 0, 0, even)), f"quarter-turn {n} 0 0x0 {even:#x} {n} 0 {even:#x} 0x0")
+    lines.say("Not Hermitian: X past a quarter turn of i Z and of -i Z, which no run has. On 62 qubits, which none has either.")
+    for k in (1, 3):
+        lines.ask(pass_line((1, *X), 7, (1, k, 0, 1)), f"quarter-turn 1 {k} 0x0 0x1 1 {(k + 1) % 4} 0x1 0x1")
+    lines.ask(pass_line((62, 0, 1, 0), 7, (62, 0, 0, 1)), "quarter-turn 62 0 0x0 0x1 62 1 0x1 0x1")
 
 
 def limits():
@@ -1086,11 +1330,14 @@ def random_unit(rng):
 
 def random_step(rng, n, widest):
     kinds = ["rotation"] * 3 + ["correction"] + ["promotion"] * (n < widest) * 2 + ["projection"] * (n > 0) * 2
+    kinds += ["quarter-turn"] * 2
     kind = rng.choice(kinds)
     if kind == "rotation":
         return rotating(random_pauli(rng, n), rng.randrange(2), random_unit(rng), random_unit(rng)), n
     if kind == "correction":
         return correcting((rng.randrange(4), rng.randrange(2**n), rng.randrange(2**n))), n
+    if kind == "quarter-turn":
+        return turning(random_pauli(rng, n)), n
     if kind == "promotion":
         return promoting(random_unit(rng), random_unit(rng)), n + 1
     p = (0, 0, 0)
@@ -1133,7 +1380,7 @@ def replay():
         _, verdict, finite = both_sides(b"".join(run), Pauli(n, *q), *buffers_of(line))
         assert finite and verdict == "same"
         lines.ask(line)
-    assert kinds == {1, 2, 3, 4, 5, 6}
+    assert kinds == {1, 2, 3, 4, 5, 6, 7}
     lines.say("With infinities and NaN in the state: demand 3 promises nothing.")
     for place in range(20):
         n = 1 + place % 3
@@ -1144,7 +1391,29 @@ def replay():
     state = [0.0, INFINITY], [0.0, 0.0]
     lines.ask(both_line(spelled(starting(1), projecting(), END), 1, X, *state))
     lines.ask(both_line(spelled(starting(1), projecting(Y), END), 1, X, *state))
+    both_turned(lines)
     return lines.lines
+
+
+def both_turned(lines):
+    """Quarter turns that turn what is carried past them, and on states that are not finite."""
+    lines.say("Quarter turns: the book's, in a row, on two qubits with P of each kind, and before each other kind.")
+    one = [0.5, -0.75], [0.25, -0.0]
+    two = [0.1, 0.2, 0.3, 0.7], [-0.3, 0.6, 1e-310, -0.9]
+    cases = [(1, q, [turning(p)]) for q, p in ((X, Z), (Y, Z), (Z, X), (X, Y), ((3, 1, 0), (3, 1, 1)), (Z, Z))]
+    cases += [(1, X, [turning(Z)] * 4), (1, X, [turning(Z), turning()]), (0, (1, 0, 0), [turning((2, 0, 0))])]
+    cases += [(2, q, [turning(p)]) for q, p in (((0, 0, 3), X), ((0, 1, 2), (2, 3, 3)), ((1, 3, 1), (0, 1, 2)), ((0, 2, 0), (2, 0, 2)))]
+    cases += [(1, X, [turning(Z), step]) for step in (rotating(), promoting(), projecting(X, 0, 1), correcting())]
+    for n, q, steps in cases:
+        line = both_line(spelled(starting(n), *steps, END), n, q, *([[0.5], [-0.25]], one, two)[n])
+        assert answer(line).endswith(" same")
+        lines.ask(line)
+    lines.say("0 times an infinity on one side only: X past a quarter turn of Y of (inf, 0), (0, 0). Past Z, and Z past X, there is none.")
+    state = [INFINITY, 0.0], [0.0, 0.0]
+    for q, p, verdict in ((X, Y, "differ"), (X, Z, "same"), (Z, X, "same")):
+        line = both_line(spelled(starting(1), turning(p), END), 1, q, *state)
+        assert answer(line).endswith(f" {verdict}")
+        lines.ask(line)
 
 
 def buffers_of(line):
@@ -1187,7 +1456,7 @@ def faulty(rng, run):
     elif kind == 4:  # A length or a tag that is another's.
         place = rng.randrange(len(run))
         tag, body = run[place][0], run[place][3:]
-        tag = rng.choice([tag, rng.randrange(8), rng.randrange(256)])
+        tag = rng.choice([tag, rng.randrange(9), rng.randrange(256)])
         run[place] = framed(tag, rng.choice([body, body[:-1], body + bytes(1), body + body]))
     whole = bytearray(b"".join(run))
     if kind == 5 and whole:  # Cut.
@@ -1199,7 +1468,7 @@ def faulty(rng, run):
         for _ in range(rng.randrange(1, 4)):
             whole[rng.randrange(len(whole))] ^= 1 << rng.randrange(8)
     elif kind == 8:  # Bytes of any sort.
-        whole = bytearray(rng.choice([rng.randrange(256), rng.randrange(7), 0]) for _ in range(rng.randrange(40)))
+        whole = bytearray(rng.choice([rng.randrange(256), rng.randrange(9), 0]) for _ in range(rng.randrange(40)))
     return bytes(whole)
 
 
@@ -1260,7 +1529,7 @@ def random_pass(rng):
         p[2] = 0
     pivot = rng.choice([n, n + 1, 2**64 - 1]) if n == 0 or rng.randrange(8) == 0 else rng.randrange(n)
     floats_of = [random_float(rng, False), random_float(rng)]
-    return pass_line(q, rng.randrange(2, 6), p, rng.randrange(2), pivot, floats_of)
+    return pass_line(q, rng.choice([2, 3, 4, 5, 7, 7]), p, rng.randrange(2), pivot, floats_of)
 
 
 def kind_of(asked, told):

@@ -2,6 +2,7 @@
 
 use model::dice::Dice;
 use model::pauli::Pauli;
+use model::rows::H;
 use model::run::{self, Run, Step};
 use naribhush::{self as here, ActivePauli, Ending, Refusal};
 use ticit::contiguous as rust;
@@ -28,7 +29,8 @@ fn active(p: Pauli) -> ActivePauli {
 
 // ------------------------------------------------------------- by the Rust
 
-/// The run's steps, each by the Rust's kernel; a correction, which it does not have, by the model.
+/// The run's steps, each by the Rust's kernel: a quarter turn, which it does not have as a step, by its rotation's; a
+/// correction, for which it has none, by the model.
 fn step_by_step(lent: &mut Buffers, run: &Run) -> Result<Ending, TicitError> {
     for (&step, width) in run.steps.iter().zip(run.widths()) {
         stepped(lent, step, width)?;
@@ -45,10 +47,12 @@ fn stepped(lent: &mut Buffers, step: Step, width: usize) -> Result<(), TicitErro
     let dim = 1 << width;
     match step {
         Step::Rotation { pauli, sign, c, s } => {
-            let t = to_rust(&widened(active(pauli))).expect("a short Pauli");
-            let kernel = rotation_kernel(&t, Turn::Pair(float(c), float(s)))?;
-            let (re, im) = (&mut lent.re, &mut lent.im);
-            rust::rotate_contiguous_active(re, im, dim, &kernel, sign == 1);
+            let turn = Turn::Pair(float(c), float(s));
+            rotated(lent, dim, pauli, turn, sign == 1)?;
+        }
+        Step::QuarterTurn { pauli } => {
+            let turn = Turn::Pair(H, H);
+            rotated(lent, dim, pauli, turn, false)?;
         }
         Step::Promotion { c, q } => {
             let (re, im) = (&mut lent.re, &mut lent.im);
@@ -70,6 +74,20 @@ fn stepped(lent: &mut Buffers, step: Step, width: usize) -> Result<(), TicitErro
         }
         Step::Correction { pauli } => pauli.correct(&mut lent.re, &mut lent.im),
     }
+    Ok(())
+}
+
+fn rotated(
+    lent: &mut Buffers,
+    dim: usize,
+    p: Pauli,
+    turn: Turn,
+    sign: bool,
+) -> Result<(), TicitError> {
+    let t = to_rust(&widened(active(p))).expect("a short Pauli");
+    let kernel = rotation_kernel(&t, turn)?;
+    let (re, im) = (&mut lent.re, &mut lent.im);
+    rust::rotate_contiguous_active(re, im, dim, &kernel, sign);
     Ok(())
 }
 
@@ -143,6 +161,7 @@ fn id_of_step(row: u8, step: Step) -> &'static str {
         Step::Promotion { .. } => id_of(row, ActivePauli::default()),
         Step::Projection { pauli, .. }
         | Step::Rotation { pauli, .. }
+        | Step::QuarterTurn { pauli }
         | Step::Correction { pauli } => id_of(row, active(pauli)),
     }
 }
@@ -168,6 +187,7 @@ fn step(dice: &mut Dice, width: usize, most: usize) -> Step {
         4 => Step::Correction {
             pauli: modelled(inputs::active(dice, width)),
         },
+        5 => Step::QuarterTurn { pauli: modelled(p) },
         _ => Step::Rotation {
             pauli: modelled(p),
             sign: dice.below(2) as u8,
@@ -187,7 +207,9 @@ fn spoil(dice: &mut Dice, step: &mut Step) {
         }
         // The Rust has none that could take it.
         Step::Correction { .. } => {}
-        Step::Projection { pauli, .. } | Step::Rotation { pauli, .. } => match dice.below(4) {
+        Step::Projection { pauli, .. }
+        | Step::Rotation { pauli, .. }
+        | Step::QuarterTurn { pauli } => match dice.below(4) {
             0 => pauli.k ^= 1,
             1 => pauli.k += 4,
             2 => pauli.x |= 1 << pauli.n,

@@ -80,6 +80,11 @@ pub fn field(step: Option<Step>) -> Field {
             pauli: active(pauli),
             ..nothing
         },
+        Some(Step::QuarterTurn { pauli }) => Field {
+            tag: 7,
+            pauli: active(pauli),
+            ..nothing
+        },
         None => Field { tag: 6, ..nothing },
     }
 }

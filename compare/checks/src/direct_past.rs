@@ -26,14 +26,18 @@ pub fn call(dice: &mut Dice, seen: &mut Outcomes) {
     let answered = naribhush::past(active(q), given);
     let expected = unless(row(q, p, given), || past(q, p, given));
     let input = || format!("{q:?}, {given:?}");
-    seen.answered("past", &answered, &expected, input);
+    let call = match given.tag {
+        7 => "past a quarter turn",
+        _ => "past",
+    };
+    seen.answered(call, &answered, &expected, input);
 }
 
 fn any_tag(dice: &mut Dice) -> u8 {
     match dice.below(12) {
-        0 => dice.pick(&[0, 1, 6, 7, 255]),
+        0 => dice.pick(&[0, 1, 6, 8, 255]),
         1 => dice.word() as u8,
-        _ => 2 + dice.below(4) as u8,
+        _ => dice.pick(&[2, 3, 4, 5, 7]),
     }
 }
 
@@ -55,7 +59,7 @@ fn row(q: Pauli, p: Pauli, given: GivenStep) -> u8 {
             let own = lowest(&[pair[0], pair[1], (given.pivot >= q.n, 10)]);
             flagged(own, given.flag)
         }
-        5 => lowest(&pair),
+        5 | 7 => lowest(&pair),
         _ => 14,
     }
 }
@@ -79,7 +83,8 @@ fn past(q: Pauli, p: Pauli, given: GivenStep) -> Past {
             branch: given.flag,
             invnorm: first,
         },
-        _ => Step::Correction { pauli: p },
+        5 => Step::Correction { pauli: p },
+        _ => Step::QuarterTurn { pauli: p },
     };
     let (left, behind) = carry_step(q, step);
     Past {

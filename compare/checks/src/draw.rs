@@ -74,6 +74,11 @@ pub fn projection(dice: &mut Dice, n: usize) -> Step {
     }
 }
 
+pub fn quarter_turn(dice: &mut Dice, n: usize) -> Step {
+    let pauli = hermitian(dice, n);
+    Step::QuarterTurn { pauli }
+}
+
 /// A step at width n that leaves a width of `limit` or less.
 pub fn step(dice: &mut Dice, n: usize, limit: usize) -> Step {
     match dice.below(10) {
@@ -83,6 +88,7 @@ pub fn step(dice: &mut Dice, n: usize, limit: usize) -> Step {
             let pauli = pauli(dice, n);
             Step::Correction { pauli }
         }
+        5 | 6 => quarter_turn(dice, n),
         _ => rotation(dice, n),
     }
 }

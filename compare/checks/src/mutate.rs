@@ -37,7 +37,7 @@ fn random_bytes(dice: &mut Dice) -> Vec<u8> {
 /// Small numbers, which tags and lengths are, more often than others.
 fn random_byte(dice: &mut Dice) -> u8 {
     match dice.below(3) {
-        0 => dice.below(8) as u8,
+        0 => dice.below(10) as u8,
         1 => dice.pick(&[0, 1, 16, 17, 27, 34, 255]),
         _ => dice.word() as u8,
     }
@@ -87,7 +87,9 @@ fn damage_step(dice: &mut Dice, step: &mut Step) {
         (Step::Projection { pauli, pivot, .. }, 1) => *pivot = any_pivot(dice, pauli.n),
         (Step::Projection { invnorm, .. }, 2) => *invnorm = floats::not_finite(dice).to_bits(),
         (Step::Projection { pauli, .. }, _) => *pauli = bad_pauli(dice, *pauli),
-        (Step::Correction { pauli }, _) => *pauli = bad_pauli(dice, *pauli),
+        (Step::Correction { pauli } | Step::QuarterTurn { pauli }, _) => {
+            *pauli = bad_pauli(dice, *pauli);
+        }
     }
 }
 
@@ -222,12 +224,16 @@ pub fn run_of_length(dice: &mut Dice, length: usize) -> Vec<u8> {
     let correction = Step::Correction {
         pauli: draw::pauli(dice, width),
     };
+    let turn = draw::quarter_turn(dice, width);
     let short = correction.field().len();
+    assert_eq!(short, turn.field().len());
     let long = draw::rotation(dice, width).field().len();
-    // Rotations until what is left is a number of corrections.
+    // Rotations until what is left is a number of corrections and quarter turns, which have one length.
     let rotations = (0..).find(|count| (steps_length - count * long).is_multiple_of(short));
     let rotations = rotations.expect("lengths without a common divisor");
-    let mut steps = vec![correction; (steps_length - rotations * long) / short];
+    let shorts = (steps_length - rotations * long) / short;
+    let mut one = || dice.pick(&[correction, turn]);
+    let mut steps: Vec<Step> = (0..shorts).map(|_| one()).collect();
     for _ in 0..rotations {
         steps.insert(dice.below(steps.len()), draw::rotation(dice, width));
     }
@@ -242,7 +248,7 @@ pub fn long_runs(dice: &mut Dice) -> Vec<Vec<u8>> {
         let mut last = whole.clone();
         last[length - 1] ^= 1;
         let mut early = whole.clone();
-        early[0] = 7;
+        early[0] = dice.pick(&[7, 8]);
         let mut damaged = whole.clone();
         damage_bytes(dice, &mut damaged);
         all.extend([whole, last, early, damaged]);

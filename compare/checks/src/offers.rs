@@ -84,7 +84,11 @@ fn reads(dice: &mut Dice, bytes: &[u8], seen: &mut Outcomes) {
         let expected = answer(read_at(bytes, at, width, limit), read);
         let answered = naribhush::read(bytes, at, width, limit);
         let input = || format!("at {at}, width {width}, limit {limit}, run {}", hex(bytes));
-        seen.answered("read", &answered, &expected, input);
+        let call = match bytes.get(at) {
+            Some(7) => "read a quarter turn",
+            _ => "read",
+        };
+        seen.answered(call, &answered, &expected, input);
         let same = answered.map(float_bits) == expected.map(float_bits);
         seen.holds("read", "its floats have the bits of the run", same, input);
     }

@@ -38,6 +38,7 @@ fn single_steps(dice: &mut Dice, n: usize) -> Vec<Step> {
     let mut steps = vec![draw::promotion(dice)];
     for pauli in paulis(n) {
         steps.push(Step::Correction { pauli });
+        steps.push(Step::QuarterTurn { pauli });
         for flag in 0..2 {
             if let Step::Rotation { c, s, .. } = draw::rotation(dice, n) {
                 steps.push(Step::Rotation {

@@ -72,6 +72,7 @@ pub fn compare(lender: &Lender, dice: &mut Dice, trial: &Trial) -> Check<Outcome
     ran(&mut b, carried_run, seen, &contents, "carried run")?;
     let finite_start = trial.state.iter().all(|part| all_finite(part));
     let finite_steps = step_by_step(lender, dice, &carried, &contents, &b)?;
+    spelled_out(lender, dice, &carried, &contents, &b)?;
     corrected(&mut b, end, seen.width)?;
 
     Ok(Outcome {
@@ -208,6 +209,27 @@ fn step_by_step(
     let same = buffers.same_but_nan(&whole.contents());
     ensure(same, "one step at a time ends otherwise than the whole run")?;
     Ok(finite)
+}
+
+/// A quarter turn leaves what the rotation leaves that it is: the list with these in place of those ends in the same buffers.
+fn spelled_out(
+    lender: &Lender,
+    dice: &mut Dice,
+    run: &Run,
+    contents: &Contents,
+    whole: &Buffers,
+) -> Check<()> {
+    let steps: Vec<_> = run.steps.iter().map(|step| step.spelled_out()).collect();
+    if steps == run.steps {
+        return Ok(());
+    }
+    let width = run.width;
+    let rotations = Run { width, steps };
+    let mut buffers = Buffers::lend(lender, dice, contents);
+    let answered = buffers.run(&lender.lend(dice, &rotations.bytes()));
+    let expected = answer(Ok(run.survey()), ending);
+    let right = answered == expected && buffers.same_but_nan(&whole.contents());
+    ensure(right, "rotations for quarter turns end otherwise")
 }
 
 fn compare_parts(a: &Buffers, b: &Buffers, width: usize) -> Parts {

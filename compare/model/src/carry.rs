@@ -13,10 +13,17 @@ pub fn takes_product(q: Pauli, m: Pauli, pivot: u8) -> bool {
 fn projected(q: Pauli, m: Pauli, pivot: u8, new_branch: u8) -> Pauli {
     let mut kept = q;
     if takes_product(q, m, pivot) {
-        kept = q.times(m);
-        kept.k = (kept.k + 2 * new_branch) % 4;
+        kept = q.times(m).raised(2 * new_branch);
     }
     kept.dropped(pivot as usize)
+}
+
+/// Where `q` and `p` anticommute, `p` times `q`, its phase raised by 3.
+fn turned(q: Pauli, p: Pauli) -> Pauli {
+    match q.anticommutes(p) {
+        true => p.times(q).raised(3),
+        false => q,
+    }
 }
 
 /// One step, and the Pauli before it: the carried step, and the Pauli after it.
@@ -43,10 +50,8 @@ pub fn carry_step(q: Pauli, step: Step) -> (Step, Pauli) {
             };
             (carried, projected(q, pauli, pivot, branch))
         }
-        Step::Correction { pauli } => {
-            let k = (q.k + 2 * flips(pauli)) % 4;
-            (step, Pauli { k, ..q })
-        }
+        Step::Correction { pauli } => (step, q.raised(2 * flips(pauli))),
+        Step::QuarterTurn { pauli } => (step, turned(q, pauli)),
     }
 }
 
@@ -120,5 +125,40 @@ mod tests {
         let (carried, end) = carry_step(pauli(0, 1, 0), z_rotation);
         assert!(matches!(carried, Step::Rotation { sign: 1, .. }));
         assert_eq!(end, pauli(0, 1, 0));
+    }
+
+    /// By hand, -i P Q: X, Y and Z past quarter turns of X, Y, Z and of -Z.
+    #[test]
+    fn quarter_turns() {
+        let [x, y, z] = [pauli(0, 1, 0), pauli(1, 1, 1), pauli(0, 0, 1)];
+        let minus = |p: Pauli| p.raised(2);
+        let ends = [
+            (x, [x, z, minus(y)]),
+            (y, [minus(z), y, x]),
+            (z, [y, minus(x), z]),
+            (minus(z), [minus(y), x, z]),
+        ];
+        for (p, ends) in ends {
+            let step = Step::QuarterTurn { pauli: p };
+            for (q, end) in [x, y, z].into_iter().zip(ends) {
+                for k in 0..4 {
+                    let (carried, after) = carry_step(q.raised(k), step);
+                    assert_eq!((carried, after), (step, end.raised(k)));
+                }
+            }
+        }
+    }
+
+    /// Carrying alters no byte of a quarter turn: ZZ past X on the first qubit is -YZ, and past XX it stays.
+    #[test]
+    fn quarter_turns_of_two_qubits() {
+        let two = |k, x, z| Pauli { n: 2, k, x, z };
+        let q = two(0, 0, 3);
+        for (p, end) in [(two(0, 1, 0), two(3, 1, 3)), (two(0, 3, 0), q)] {
+            let steps = vec![Step::QuarterTurn { pauli: p }];
+            let bytes = Run { width: 2, steps }.bytes();
+            assert_eq!(carrying(&bytes, q, 27), Ok((bytes.clone(), end)));
+            assert_eq!(carrying(&bytes, q, 26), Err(Refusal::of(16)));
+        }
     }
 }

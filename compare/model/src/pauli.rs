@@ -47,6 +47,12 @@ impl Pauli {
         }
     }
 
+    /// The phase raised, modulo 4.
+    pub fn raised(self, exponent: u8) -> Self {
+        let k = (self.k + exponent) % 4;
+        Self { k, ..self }
+    }
+
     pub fn anticommutes(self, other: Self) -> bool {
         parity(self.x, other.z) != parity(self.z, other.x)
     }

@@ -59,6 +59,14 @@ pub fn rotation(p: Pauli, c: f64, s: f64, re: usize, im: usize) -> u8 {
     lowest(&[(row != 0, row), (short(re, im, p.n), 13)])
 }
 
+/// 1/sqrt 2, the c and the s of a quarter turn.
+pub const H: f64 = f64::from_bits(0x3fe6_a09e_667f_3bcd);
+
+/// A rotation's rows, c and s both being h: 3, 6 and 7 are left.
+pub fn quarter_turn(p: Pauli) -> u8 {
+    rotation_kernel(p, H, H)
+}
+
 pub fn measurement_kernel(p: Pauli, pivot: usize) -> u8 {
     lowest(&measurement_tests(p, pivot))
 }

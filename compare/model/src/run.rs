@@ -14,6 +14,7 @@ const PROMOTION: u8 = 3;
 const PROJECTION: u8 = 4;
 const CORRECTION: u8 = 5;
 const END: u8 = 6;
+const QUARTER_TURN: u8 = 7;
 
 /// Where the sign of a rotation and the branch of a projection stand, counted from the field's tag.
 const SIGN_AT: usize = 3 + 17;
@@ -59,6 +60,10 @@ pub enum Step {
         invnorm: u64,
     },
     Correction {
+        pauli: Pauli,
+    },
+    /// A rotation with sign 0, and c and s both 1/sqrt 2.
+    QuarterTurn {
         pauli: Pauli,
     },
 }
@@ -122,6 +127,21 @@ impl Step {
                 field(PROJECTION, &body.concat())
             }
             Step::Correction { pauli } => field(CORRECTION, &pauli_bytes(pauli)),
+            Step::QuarterTurn { pauli } => field(QUARTER_TURN, &pauli_bytes(pauli)),
+        }
+    }
+
+    /// A quarter turn as the rotation that it is; any other step as it is.
+    pub fn spelled_out(self) -> Self {
+        let Step::QuarterTurn { pauli } = self else {
+            return self;
+        };
+        let h = rows::H.to_bits();
+        Step::Rotation {
+            pauli,
+            sign: 0,
+            c: h,
+            s: h,
         }
     }
 
@@ -225,6 +245,7 @@ fn body_length(tag: u8) -> Option<usize> {
         PROJECTION => Some(27),
         CORRECTION => Some(17),
         END => Some(0),
+        QUARTER_TURN => Some(17),
         _ => None,
     }
 }
@@ -262,6 +283,9 @@ fn step_of(tag: u8, body: &[u8], width: usize) -> Option<Step> {
         CORRECTION => Some(Step::Correction {
             pauli: pauli_of(body, width),
         }),
+        QUARTER_TURN => Some(Step::QuarterTurn {
+            pauli: pauli_of(body, width),
+        }),
         _ => None,
     }
 }
@@ -295,6 +319,7 @@ pub fn step_row(step: Step, width: usize, limit: usize) -> u8 {
         Step::Correction { pauli } => {
             (rows::correction(pauli, usize::MAX, usize::MAX), (false, 14))
         }
+        Step::QuarterTurn { pauli } => (rows::quarter_turn(pauli), (false, 14)),
     };
     rows::lowest(&[(kernel != 0, kernel), own])
 }
@@ -409,6 +434,48 @@ mod tests {
         };
         assert_eq!(run.steps, [Step::Correction { pauli }]);
         assert_eq!(run.survey().steps, 1);
+    }
+
+    /// A quarter turn's field, by hand: X on one qubit. Its rows are 3 and 7, as a rotation's; a wrong length is 14.
+    #[test]
+    fn quarter_turns() {
+        let with = |tag: u8, k: u8, x: u8, length: u8| {
+            let mut bytes = vec![1, 1, 0, 1, tag, length, 0, k, x];
+            bytes.resize(7 + usize::from(length), 0);
+            bytes.extend([6, 0, 0]);
+            bytes
+        };
+        let bytes = with(7, 0, 1, 17);
+        let run = read(&bytes, LIMIT).expect("accepted");
+        assert_eq!(run.bytes(), bytes);
+        let pauli = Pauli {
+            x: 1,
+            ..Pauli::identity(1)
+        };
+        assert_eq!(run.steps, [Step::QuarterTurn { pauli }]);
+        assert!(run.flags_at().is_empty());
+        let seen = Survey {
+            width: 1,
+            steps: 1,
+            greatest: 1,
+            scratch: 0,
+        };
+        assert_eq!(run.survey(), seen);
+        let refused = [
+            (with(7, 1, 1, 17), 7),
+            (with(7, 4, 1, 17), 3),
+            (with(7, 0, 2, 17), 3),
+            (with(7, 1, 2, 17), 3),
+            (with(7, 0, 1, 16), 14),
+            (with(7, 0, 1, 18), 14),
+            (with(0, 0, 1, 17), 14),
+            (with(8, 0, 1, 17), 14),
+        ];
+        for (bytes, row) in refused {
+            assert_eq!(read(&bytes, LIMIT), Err(Refusal::at(row, 4)));
+        }
+        // Not Hermitian, it is a correction still.
+        assert!(read(&with(5, 1, 1, 17), LIMIT).is_ok());
     }
 
     #[test]

@@ -76,8 +76,8 @@ pub struct PrecomputedActivePauliMeasurementKernel {
     pub nondiagonal_coefficient1_even: Complex64,
 }
 
-/// A field of a run by its tag: 2 to 5 a step, 6 the end. `flag` is a sign or a branch. What the field does not
-/// have is 0; a projection's one float is the first.
+/// A field of a run by its tag: 2 to 5 and 7 a step, 6 the end. `flag` is a sign or a branch. What the field does
+/// not have is 0; a projection's one float is the first.
 #[repr(C)]
 #[derive(Clone, Copy, Debug, PartialEq, Default)]
 pub struct Field {
@@ -98,8 +98,8 @@ pub struct Read {
     pub width: usize,
 }
 
-/// A step by its tag, 2 to 5, as it is handed over: its sign or branch is a number. What the step does not have is
-/// not looked at.
+/// A step by its tag, 2 to 5 or 7, as it is handed over: its sign or branch is a number. What the step does not
+/// have is not looked at.
 #[repr(C)]
 #[derive(Clone, Copy, Debug, PartialEq, Default)]
 pub struct GivenStep {

@@ -13,7 +13,7 @@ use Rattle.amplitudelaws.specs.Projection.{projected}
 use Rattle.amplitudelaws.specs.Correction.{corrected}
 use Rattle.amplitudelaws.specs.Rows.{pivotMask}
 use Rattle.amplitudelaws.specs.Step.{Step, widthAfter}
-use Rattle.amplitudelaws.specs.Step.Step.{rotation, promotion, projection, correction}
+use Rattle.amplitudelaws.specs.Step.Step.{rotation, promotion, projection, correction, quarterTurn}
 
 module _ {R : Type 0} (A : Arithmetic R) where
   -- a step at n qubits
@@ -22,6 +22,7 @@ module _ {R : Type 0} (A : Arithmetic R) where
   acts n (promotion c q) F = promoted A n c q F
   acts n (projection M p v invnorm) F = projected A M p v invnorm F
   acts n (correction P) F = corrected A P F
+  acts n (quarterTurn P) F = rotated A P 0 (A .h) (A .h) F
 
   -- one step after the other
   unfoldable pub acted : ℕ → List (Step R) → (ℕ → Amplitude R) → ℕ → Amplitude R
@@ -42,6 +43,7 @@ module _ {R : Type 0} where
   Proper n (promotion c q) = Unit
   Proper n (projection M p v invnorm) = (M .n ≡ n) × Measurable M p
   Proper n (correction P) = (P .n ≡ n) × Fitting P
+  Proper n (quarterTurn P) = (P .n ≡ n) × Fitting P × (hermitian P ≡ true)
 
   abbrev pub Propers : ℕ → List (Step R) → Type 0
   Propers n [] = Unit

@@ -40,11 +40,11 @@ module _ {R : Type 0} (A : Arithmetic R) where
   conjugate a = record { re = a .re; im = neg (a .im) }
 
   -- i^e a, for e in 0..3, by exchanging and negating parts
-  unfoldable pub quarters : ℕ → Amplitude R → Amplitude R
-  quarters zero a = a
-  quarters (suc zero) a = record { re = neg (a .im); im = a .re }
-  quarters (suc (suc zero)) a = record { re = neg (a .re); im = neg (a .im) }
-  quarters (suc (suc (suc e))) a = record { re = a .im; im = neg (a .re) }
+  unfoldable pub timesPower : ℕ → Amplitude R → Amplitude R
+  timesPower zero a = a
+  timesPower (suc zero) a = record { re = neg (a .im); im = a .re }
+  timesPower (suc (suc zero)) a = record { re = neg (a .re); im = neg (a .im) }
+  timesPower (suc (suc (suc e))) a = record { re = a .im; im = neg (a .re) }
 
   -- -1 where e is odd, else 1
   unfoldable pub direction : ℕ → R

@@ -20,6 +20,7 @@ pub mod Stands
 pub mod Remaining
 pub mod Projector
 pub mod Group
+pub mod Conjugation
 pub mod Halves
 pub mod Eigenspace
 pub mod Length

@@ -17,7 +17,7 @@ use Rattle.amplitudelaws.specs.Promotion.{promoted, raised}
 use Rattle.amplitudelaws.specs.Projection.{remainingBy, remaining, projected}
 use Rattle.amplitudelaws.specs.Correction.{corrected}
 use Rattle.amplitudelaws.specs.Step.{Step, widthAfter, lastWidth}
-use Rattle.amplitudelaws.specs.Step.Step.{rotation, promotion, projection, correction}
+use Rattle.amplitudelaws.specs.Step.Step.{rotation, promotion, projection, correction, quarterTurn}
 use Rattle.amplitudelaws.specs.Acting.{acts, acted, Proper, Propers}
 
 above : (n b : ℕ) → 2 ^ n ≤ b → b < 2 ^ suc n → b - 2 ^ n < 2 ^ n
@@ -65,6 +65,7 @@ module _ {R : Type 0} (A : Arithmetic R) where
   acts-near n (projection M p v invnorm) (e, ok) F G near b h =
       rw (remaining-near F G n near _ (M .x) (M .z) _ _ p v b (rw e at (ok .fitting .xs)) (rw e at (ok .inside)) h)
   acts-near n (correction P) (e, fits) F G near b h = rw (near (bitXor b (P .x)) (xor-lt n b (P .x) h (rw e at (fits .xs))))
+  acts-near n (quarterTurn P) (e, fits, real) F G near b h = rotated-near F G n near _ _ (P .x) (P .z) 0 (A .h) _ b (rw e at (fits .xs)) h
 
   pub acted-near : (n : ℕ) (ts : List (Step R)) → Propers n ts → (F G : ℕ → Amplitude R) → ((b : ℕ) → b < 2 ^ n → F b ≡ G b)
       → (b : ℕ) → b < 2 ^ lastWidth n ts → acted A n ts F b ≡ acted A n ts G b

@@ -3,7 +3,7 @@ use mathlib.Core.Path.{_≡_, refl, ap, _∙_}
 use mathlib.Core.List.{List, [], _∷_, map}
 use Prim.Native.Nat.{ℕ}
 use Rattle.amplitudelaws.specs.Step.{Step, widthAfter, lastWidth}
-use Rattle.amplitudelaws.specs.Step.Step.{rotation, promotion, projection, correction}
+use Rattle.amplitudelaws.specs.Step.Step.{rotation, promotion, projection, correction, quarterTurn}
 use Rattle.amplitudelaws.specs.Acting.{Proper, Propers}
 
 module _ {R S : Type 0} (value : R → S) where
@@ -12,6 +12,7 @@ module _ {R S : Type 0} (value : R → S) where
   valued (promotion c q) = promotion (value c) (value q)
   valued (projection M p v invnorm) = projection M p v (value invnorm)
   valued (correction P) = correction P
+  valued (quarterTurn P) = quarterTurn P
 
   abbrev pub valuedSteps : List (Step R) → List (Step S)
   valuedSteps = map valued
@@ -22,6 +23,7 @@ module _ {R S : Type 0} (value : R → S) where
   after-valued n (promotion c q) = refl
   after-valued n (projection M p v invnorm) = refl
   after-valued n (correction P) = refl
+  after-valued n (quarterTurn P) = refl
 
   pub last-valued : (n : ℕ) (ts : List (Step R)) → lastWidth n (valuedSteps ts) ≡ lastWidth n ts
   unfolding lastWidth
@@ -34,6 +36,7 @@ module _ {R S : Type 0} (value : R → S) where
   proper-valued n (promotion c q) ok = ok
   proper-valued n (projection M p v invnorm) ok = ok
   proper-valued n (correction P) ok = ok
+  proper-valued n (quarterTurn P) ok = ok
 
   pub propers-valued : (n : ℕ) (ts : List (Step R)) → Propers n ts → Propers n (valuedSteps ts)
   propers-valued n [] ok = ok

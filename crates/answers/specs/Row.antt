@@ -60,6 +60,12 @@ module _ (r : ℕ) where
     unfolding left
     left-none new old e = rw e
 
+-- no rows behind the first
+pub first-nothing : (r : ℕ) → first r 0 ≡ r
+unfolding first
+first-nothing zero = refl
+first-nothing (suc r) = refl
+
 -- ---- what is known where none refuses
 
 pub row-passed : (t : Bool) (n rest : ℕ) → 0 < n → row t n rest ≡ 0 → (t ≡ false) × (rest ≡ 0)

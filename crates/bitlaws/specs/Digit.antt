@@ -7,6 +7,7 @@ use native.Mathlib.Nat.{mod-lt, zero-lt-suc, div-eq-of-lt, div-one, div-add-mod'
 use native.Mathlib.Omega.{arith}
 use lib.Arith.{digits-mod, mod-mul}
 use lib.Dec.{eqb, lit<}
+use borrow.Author.Tests.{eqb-false}
 use lib.Pow.{pow-pos, pow-mono, shr-shr, field, shl-exact}
 
 -- digit q of a
@@ -26,11 +27,19 @@ pub bit-odd : (t : Bool) → eqb (bitOf t % 2) 1 ≡ t
 bit-odd true = refl
 bit-odd false = refl
 
+pub bit-one : (t : Bool) → eqb (bitOf t) 1 ≡ t
+bit-one true = refl
+bit-one false = refl
+
 -- what holds of 0 and of 1 holds of a digit
 pub by-digit : (P : ℕ → Type 0) → P 0 → P 1 → (d : ℕ) → d < 2 → P d
 by-digit P h k zero l = h
 by-digit P h k (suc zero) l = k
 by-digit P h k (suc (suc d)) l = absurd (omega arith)
+
+-- a digit that is not 1
+pub not-one : (d : ℕ) → d < 2 → eqb d 1 ≡ false → d ≡ 0
+not-one d l e = by-digit (λ d. eqb d 1 ≡ false → d ≡ 0) (λ e. refl) (λ e. absurd (eqb-false 1 1 e refl)) d l e
 
 -- a remainder by 2 is a digit
 pub mod-two : (n : ℕ) → n % 2 < 2

@@ -115,5 +115,6 @@ fn write_flag(out: &mut [u8], at: usize, step: Step)
         }
         Step::Promotion(_, _) => {}
         Step::Correction(_) => {}
+        Step::QuarterTurn(_) => {}
     }
 }

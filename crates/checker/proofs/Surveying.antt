@@ -19,7 +19,7 @@ use Rattle.amplitudelaws.specs.Passed.{measurement-passed}
 use Rattle.framelaws.specs.Allowed.{Placed}
 use Rattle.framelaws.specs.Rows.{stepRow, projectionStepRow}
 use Rattle.amplitudelaws.specs.Step.{Step, widthAfter}
-use Rattle.amplitudelaws.specs.Step.Step.{rotation, promotion, projection, correction}
+use Rattle.amplitudelaws.specs.Step.Step.{rotation, promotion, projection, correction, quarterTurn}
 use Rattle.framelaws.specs.Survey.{Survey, outset, surveyed, surveyFrom, survey}
 use Rattle.runlaws.specs.Field.{mostBytes}
 use Rattle.runlaws.specs.Reading.{Cursor, readAt}
@@ -51,6 +51,7 @@ measured limit n (projection M p v invnorm) at e =
     let passed = measurement-passed M p (not (finite invnorm)) (first-passed (measurementRow M p (not (finite invnorm))) (row (ltb 1 v) 14 0) e .0) in
     (omega (arith, at, passed .2 .inside), omega (arith, at, passed .0))
 measured limit n (correction P) at e = tt
+measured limit n (quarterTurn P) at e = tt
 
 -- at the end field, bytes past it or none
 end-answer : (v : Survey) (past : Bool) (at : ℕ)

@@ -8,7 +8,7 @@ use Rattle.answers.specs.Answer.{Answer}
 use Rattle.answers.specs.Answer.Answer.{accepted, refusedAt}
 use Rattle.amplitudelaws.specs.Rows.{widestKernel}
 use Rattle.amplitudelaws.specs.Step.{Step, widthAfter}
-use Rattle.amplitudelaws.specs.Step.Step.{rotation, promotion, projection, correction}
+use Rattle.amplitudelaws.specs.Step.Step.{rotation, promotion, projection, correction, quarterTurn}
 use Rattle.framelaws.specs.Survey.{Survey}
 use Rattle.runlaws.specs.Field.{mostBytes}
 use Rattle.runlaws.specs.Reading.{Read}
@@ -20,6 +20,7 @@ Measured n (rotation P sign c s) = Unit
 Measured n (promotion c q) = Unit
 Measured n (projection M p v invnorm) = (0 < n) × (n ≤ widestKernel)
 Measured n (correction P) = Unit
+Measured n (quarterTurn P) = Unit
 
 -- a step behind which the state has `width` qubits, in a run of fewer steps than bytes
 pub record Surveyable (v : Survey) (t : Step Float) (width : ℕ) : Type 0 where

@@ -149,5 +149,6 @@ fn mixed_amplitudes(width: usize, step: Step) -> usize
             1usize << (width - 1)
         }
         Step::Correction(_) => 0,
+        Step::QuarterTurn(_) => 0,
     }
 }

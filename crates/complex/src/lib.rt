@@ -35,8 +35,8 @@ pub fn phase_factor(phase: u8) -> Complex64
 }
 
 // i^exponent times the amplitude, by exchanging and negating its parts; the exponent counts modulo 4.
-pub fn quarters(exponent: u8, a: Complex64) -> Complex64
-    ensures { λ r. ⌜ complexOf r ≡ formula.quarters binary (exponent % 4) (complexOf a) ⌝ }
+pub fn times_power(exponent: u8, a: Complex64) -> Complex64
+    ensures { λ r. ⌜ complexOf r ≡ formula.timesPower binary (exponent % 4) (complexOf a) ⌝ }
 {
     let turns = exponent % 4;
     if turns == 0 {

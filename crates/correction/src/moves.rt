@@ -8,7 +8,7 @@ ghost use Prim.Native.Nat.{_+_, _*_, _%_, _≤_, _<_, _^_};
 ghost use Rattle.bitlaws.specs.Opening.{openBit};
 ghost use Rattle.bitlaws.specs.Parity.{overlap};
 ghost use Rattle.statelaws.specs.Pairs.{Pivoted};
-ghost use Rattle.amplitudelaws.specs.Arithmetic.{quarters};
+ghost use Rattle.amplitudelaws.specs.Arithmetic.{timesPower};
 ghost use Rattle.amplitudelaws.specs.Binary.{binary};
 ghost use Rattle.amplitudelaws.specs.Correction.{corrected};
 ghost use Rattle.amplitudelaws.specs.Lent.{state, Room, In};
@@ -54,9 +54,9 @@ fn exponent(phase: u8, basis: u64, zmask: u64) -> u8
 fn turn_at(re: &mut [f64], im: &mut [f64], b: usize, exponent: u8)
     requires { ⌜ In b re im ⌝ }
     ensures { λ _. let S = state re im .entry in
-        ⌜ state re im .exit ≡ setPoint b (quarters binary (exponent % 4) (point S b)) S ⌝ }
+        ⌜ state re im .exit ≡ setPoint b (timesPower binary (exponent % 4) (point S b)) S ⌝ }
 {
-    let a = complex::quarters(
+    let a = complex::times_power(
         exponent,
         Complex64 {
             re: re[b],
@@ -100,8 +100,8 @@ fn opened_at(k: usize, pair_bit: usize) -> usize
 fn exchange(re: &mut [f64], im: &mut [f64], left: usize, right: usize, to_left: u8, to_right: u8)
     requires { ⌜ In left re im × In right re im ⌝ }
     ensures { λ _. let S = state re im .entry in
-        let a = quarters binary («to_left» % 4) (point S right) in
-        let b = quarters binary («to_right» % 4) (point S left) in
+        let a = timesPower binary («to_left» % 4) (point S right) in
+        let b = timesPower binary («to_right» % 4) (point S left) in
         ⌜ state re im .exit ≡ setPoint right b (setPoint left a S) ⌝ }
 {
     let p = Complex64 {
@@ -112,8 +112,8 @@ fn exchange(re: &mut [f64], im: &mut [f64], left: usize, right: usize, to_left: 
         re: re[right],
         im: im[right],
     };
-    let a = complex::quarters(to_left, q);
-    let b = complex::quarters(to_right, p);
+    let a = complex::times_power(to_left, q);
+    let b = complex::times_power(to_right, p);
     re[left] = a.re;
     im[left] = a.im;
     re[right] = b.re;

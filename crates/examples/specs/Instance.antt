@@ -20,7 +20,7 @@ use Rattle.floatlaws.specs.Same.{isZero}
 use Rattle.paulilaws.specs.Pauli.{Pauli, product, anti, fits, hermitian, coefficient, ys}
 use Rattle.paulilaws.specs.Frame.{raised, dropped}
 use Rattle.statelaws.specs.Over.{over}
-use Rattle.amplitudelaws.specs.Arithmetic.{power, times, conjugate, quarters, direction, negated, scale, scaled, mixed}
+use Rattle.amplitudelaws.specs.Arithmetic.{power, times, conjugate, timesPower, direction, negated, scale, scaled, mixed}
 use Rattle.amplitudelaws.specs.Binary.{inUnit}
 use Rattle.amplitudelaws.specs.Rotation.{rotationCoefficient, rotatedAlone, rotatedWith, rotatedBy, rotated}
 use Rattle.amplitudelaws.specs.Promotion.{raised as raisedQubit, promoted}
@@ -32,9 +32,9 @@ use Rattle.amplitudelaws.specs.Steps as leaves
 use Rattle.framelaws.specs.Alike.{Finite}
 use Rattle.framelaws.specs.Allowed.{FiniteState, FiniteSteps}
 use Rattle.amplitudelaws.specs.Step.{Step, widthAfter}
-use Rattle.amplitudelaws.specs.Step.Step.{rotation, promotion, projection, correction}
+use Rattle.amplitudelaws.specs.Step.Step.{rotation, promotion, projection, correction, quarterTurn}
 use Rattle.framelaws.specs.Rows.{stepRow, rotationStepRow, promotionStepRow, projectionStepRow}
-use Rattle.framelaws.specs.Carrying.{flipped, deciding, meets, absorbed, widened, carriedStep, passed, carriedSteps, endPauli}
+use Rattle.framelaws.specs.Carrying.{flipped, deciding, meets, absorbed, widened, turnedBy, turnedPast, carriedStep, passed, carriedSteps, endPauli}
 use Rattle.framelaws.specs.Survey.{mixedAmplitudes, surveyed, surveyFrom, survey}
 use Rattle.framelaws.specs.Memory.{Memory, memoryOf, stepped, ran}
 use Rattle.runlaws.specs.Bytes.{number, floatAt, pauliAt}
@@ -51,8 +51,9 @@ use Rattle.examples.specs.Runs.{one}
 abbrev Y : Pauli
 Y = record { n = 1; k = 1; x = 1; z = 1 }
 
--- Rotations by Z, X and Y, the three kinds; a qubit promoted; a projection of X on qubit 0, with an X part, and one of Z; a qubit promoted again; a
--- correction X. The signs and branches are the arguments.
+-- Rotations by Z, X and Y, the three kinds; a qubit promoted; a quarter turn of Z on qubit 0 and X on qubit 1, with X and Z parts, with which Y on qubit 0
+-- anticommutes: the formulas need finite amplitudes there. Then a projection of Y on qubit 0, with an X part, and one of Z; a qubit promoted again; a correction X. The
+-- signs and branches are the arguments.
 abbrev steps : ℕ → ℕ → ℕ → ℕ → ℕ → List ℕ
 steps z x y mixing diagonal =
     bytes.runFrom 1
@@ -60,7 +61,11 @@ steps z x y mixing diagonal =
     bytes.rotation 0 0 1 z
     (bytes.rotation 0 1 0 x
     (bytes.rotation 1 1 1 y
-    (bytes.promotion (bytes.projection 0 1 0 0 mixing (bytes.projection 0 0 1 0 diagonal (bytes.promotion (bytes.correction 0 1 0 rest))))))))
+    (bytes.promotion
+    (bytes.quarterTurn 0 2 1
+    (bytes.projection 1 1 1 0 mixing
+    (bytes.projection 0 0 1 0 diagonal
+    (bytes.promotion (bytes.correction 0 1 0 rest)))))))))
 
 abbrev run : List ℕ
 run = steps 0 0 0 0 1
@@ -73,11 +78,11 @@ abbrev there : Memory
 there = memoryOf (one ∷ bytes.zero ∷ one ∷ one ∷ one ∷ []) (bytes.zero ∷ bytes.zero ∷ one ∷ one ∷ []) (one ∷ one ∷ []) (one ∷ one ∷ one ∷ [])
 
 abbrev ending : Ending
-ending = record { width = 1; steps = 8 }
+ending = record { width = 1; steps = 9 }
 
--- the carried run: Y flips the signs of Z's and X's rotations and X's branch
+-- the carried run: Y flips the signs of Z's and X's rotations; behind the quarter turn it is -XX, and flips both branches
 abbrev carried : List ℕ
-carried = steps 1 1 0 1 1
+carried = steps 1 1 0 1 0
 
 abbrev end : Pauli
 end = record { n = 1; k = 1; x = 0; z = 0 }
@@ -90,7 +95,7 @@ output = bytes.outputFor run
 
 -- the answer, and what is left in the output, whole
 outcome : carrying widestRun run Y output ≡ record { answer = accepted end; lent = bytes.filledWith carried }
-unfolding carrying onRun carryingRow carriedRun runOf begun startWidth mapped walk follow ended readAt readField judged judgedBy unless decoded fieldAt isWhole bodyLength number floatAt pauliAt fits hermitian coefficient ys flagged flagAt fieldSize carriedSteps carriedStep passed flipped anti product deciding meets absorbed widened endPauli raised dropped dropBit widthAfter stepRow rotationStepRow promotionStepRow projectionStepRow rotationKernelRow measurementRow hermitianRow widthRow unitRow promotedWidthRow pivotRow pivotMask inUnit row first answered left le neg ofBits digit overlap parity ones onesIn
+unfolding carrying onRun carryingRow carriedRun runOf begun startWidth mapped walk follow ended readAt readField judged judgedBy unless decoded fieldAt isWhole bodyLength number floatAt pauliAt fits hermitian coefficient ys flagged flagAt fieldSize carriedSteps carriedStep passed flipped anti product deciding meets absorbed widened turnedBy turnedPast endPauli raised dropped dropBit widthAfter stepRow rotationStepRow promotionStepRow projectionStepRow rotationKernelRow measurementRow hermitianRow widthRow unitRow promotedWidthRow pivotRow pivotMask inUnit row first answered left le neg ofBits digit overlap parity ones onesIn
 outcome = refl
 
 carries : carrying widestRun run Y output .answer ≡ accepted end
@@ -125,8 +130,9 @@ carriedList =
     ∷ rotation (record { n = 1; k = 0; x = 1; z = 0 }) 1 bytes.zero one
     ∷ rotation (record { n = 1; k = 1; x = 1; z = 1 }) 0 bytes.zero one
     ∷ promotion bytes.zero one
-    ∷ projection (record { n = 2; k = 0; x = 1; z = 0 }) 0 1 one
-    ∷ projection (record { n = 1; k = 0; x = 0; z = 1 }) 0 1 one
+    ∷ quarterTurn (record { n = 2; k = 0; x = 2; z = 1 })
+    ∷ projection (record { n = 2; k = 1; x = 1; z = 1 }) 0 1 one
+    ∷ projection (record { n = 1; k = 0; x = 0; z = 1 }) 0 0 one
     ∷ promotion bytes.zero one
     ∷ correction (record { n = 1; k = 0; x = 1; z = 0 })
     ∷ []
@@ -161,8 +167,8 @@ double S f g h i = record { at = at }
     at (suc (suc (suc (suc b)))) l = absurd (omega arith)
 
 finite-steps : FiniteSteps 1 carriedList there
-unfolding stepped widthAfter leaves.rotation leaves.promotion leaves.projection leaves.correction leaves.scratchAfter leaves.scratchBy written point over rotated rotatedBy rotatedAlone rotatedWith rotationCoefficient promoted raisedQubit projected remaining remainingBy projectionCoefficient minus source corrected quarters power times conjugate direction negated scale scaled mixed openBit overlap parity ones onesIn digit neg add sub mul ofBits
-finite-steps = (single _ (tt, tt) (tt, tt), (single _ (tt, tt) (tt, tt), (single _ (tt, tt) (tt, tt), (single _ (tt, tt) (tt, tt), (double _ (tt, tt) (tt, tt) (tt, tt) (tt, tt), (single _ (tt, tt) (tt, tt), (none _ (tt, tt), (single _ (tt, tt) (tt, tt), single _ (tt, tt) (tt, tt)))))))))
+unfolding stepped widthAfter leaves.rotation leaves.promotion leaves.projection leaves.correction leaves.scratchAfter leaves.scratchBy written point over rotated rotatedBy rotatedAlone rotatedWith rotationCoefficient promoted raisedQubit projected remaining remainingBy projectionCoefficient minus source corrected timesPower power times conjugate direction negated scale scaled mixed openBit overlap parity ones onesIn digit neg add sub mul ofBits
+finite-steps = (single _ (tt, tt) (tt, tt), (single _ (tt, tt) (tt, tt), (single _ (tt, tt) (tt, tt), (single _ (tt, tt) (tt, tt), (double _ (tt, tt) (tt, tt) (tt, tt) (tt, tt), (double _ (tt, tt) (tt, tt) (tt, tt) (tt, tt), (single _ (tt, tt) (tt, tt), (none _ (tt, tt), (single _ (tt, tt) (tt, tt), single _ (tt, tt) (tt, tt))))))))))
 
 finite-run : FiniteRun widestRun carried there
 finite-run R e = subst (λ (r : Run). FiniteSteps (r .width) (r .steps) there) (accepted-same (sym reads ∙ e)) finite-steps
@@ -185,6 +191,6 @@ numbers : (b : ℕ) → b < 2 ^ 1
 numbers b h = met .same (subst (λ (t : List ℕ). FiniteRun widestRun t there) (sym sent-is) finite-run) b (rw ends-at h)
 
 -- and not all of them are zeros
-not-all-zeros : T (not (isZero (point (running widestRun run (fired Y here) .lent .state) 0 .im)))
-unfolding running onRun memoryRow surveyOf survey surveyFrom surveyed mixedAmplitudes roomFor room roomRow runOf begun startWidth mapped walk follow ended readAt readField judged judgedBy unless decoded fieldAt isWhole bodyLength number floatAt pauliAt fits hermitian coefficient ys widthAfter stepRow rotationStepRow promotionStepRow projectionStepRow rotationKernelRow measurementRow hermitianRow widthRow unitRow promotedWidthRow pivotRow pivotMask inUnit row first answered left le neg ofBits digit overlap parity ones onesIn stepped leaves.rotation leaves.promotion leaves.projection leaves.correction leaves.scratchAfter leaves.scratchBy written point over rotated rotatedBy rotatedAlone rotatedWith rotationCoefficient promoted raisedQubit projected remaining remainingBy projectionCoefficient minus source corrected quarters power times conjugate direction negated scale scaled mixed openBit add sub mul ran fired correctionRow
+not-all-zeros : T (not (isZero (point (running widestRun run (fired Y here) .lent .state) 0 .re)))
+unfolding running onRun memoryRow surveyOf survey surveyFrom surveyed mixedAmplitudes roomFor room roomRow runOf begun startWidth mapped walk follow ended readAt readField judged judgedBy unless decoded fieldAt isWhole bodyLength number floatAt pauliAt fits hermitian coefficient ys widthAfter stepRow rotationStepRow promotionStepRow projectionStepRow rotationKernelRow measurementRow hermitianRow widthRow unitRow promotedWidthRow pivotRow pivotMask inUnit row first answered left le neg ofBits digit overlap parity ones onesIn stepped leaves.rotation leaves.promotion leaves.projection leaves.correction leaves.scratchAfter leaves.scratchBy written point over rotated rotatedBy rotatedAlone rotatedWith rotationCoefficient promoted raisedQubit projected remaining remainingBy projectionCoefficient minus source corrected timesPower power times conjugate direction negated scale scaled mixed openBit add sub mul ran fired correctionRow
 not-all-zeros = tt

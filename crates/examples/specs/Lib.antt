@@ -1,4 +1,5 @@
 pub mod Runs
 pub mod Starred
+pub mod QuarterTurns
 pub mod Instance
 pub mod Seven

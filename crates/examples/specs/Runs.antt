@@ -24,7 +24,7 @@ oneBits rest = 0 ∷ 0 ∷ 0 ∷ 0 ∷ 0 ∷ 0 ∷ 240 ∷ 63 ∷ rest
 abbrev pauliBytes : ℕ → ℕ → ℕ → List ℕ → List ℕ
 pauliBytes k x z rest = k ∷ eight x (eight z rest)
 
--- the fields of a rotation (k, x, z, sign), a promotion, a projection (k, x, z, pivot, branch) and a correction (k, x, z); then what follows
+-- the fields of a rotation (k, x, z, sign), a promotion, a projection (k, x, z, pivot, branch), a correction and a quarter turn (k, x, z); then what follows
 abbrev pub rotation : ℕ → ℕ → ℕ → ℕ → List ℕ → List ℕ
 rotation k x z sign rest = 2 ∷ 34 ∷ 0 ∷ pauliBytes k x z (sign ∷ zeroBits (oneBits rest))
 
@@ -36,6 +36,9 @@ projection k x z pivot branch rest = 4 ∷ 27 ∷ 0 ∷ pauliBytes k x z (pivot 
 
 abbrev pub correction : ℕ → ℕ → ℕ → List ℕ → List ℕ
 correction k x z rest = 5 ∷ 17 ∷ 0 ∷ pauliBytes k x z rest
+
+abbrev pub quarterTurn : ℕ → ℕ → ℕ → List ℕ → List ℕ
+quarterTurn k x z rest = 7 ∷ 17 ∷ 0 ∷ pauliBytes k x z rest
 
 -- the start field, the steps, the end field
 abbrev pub runFrom : ℕ → (List ℕ → List ℕ) → List ℕ

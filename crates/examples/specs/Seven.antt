@@ -8,13 +8,13 @@ use native.Mathlib.Omega.{arith}
 use lib.Count.{ones}
 use Rattle.bitlaws.specs.Opening.{openBit}
 use Rattle.bitlaws.specs.Parity.{overlap}
-use Rattle.amplitudelaws.specs.Arithmetic.{Amplitude, power, times, conjugate, quarters, direction, scale, scaled, mixed}
-use Rattle.amplitudelaws.specs.Rotation.{rotationCoefficient, rotatedBy, rotated}
+use Rattle.amplitudelaws.specs.Arithmetic.{Amplitude, power, times, conjugate, timesPower, direction, negated, scale, scaled, mixed}
+use Rattle.amplitudelaws.specs.Rotation.{rotationCoefficient, rotatedAlone, rotatedBy, rotated}
 use Rattle.amplitudelaws.specs.Promotion.{raised, promoted}
 use Rattle.amplitudelaws.specs.Projection.{projectionCoefficient, remainingBy, remaining, projected}
 use Rattle.amplitudelaws.specs.Correction.{corrected}
 use Rattle.amplitudelaws.specs.Step.{widthAfter}
-use Rattle.amplitudelaws.specs.Step.Step.{rotation, promotion, projection, correction}
+use Rattle.amplitudelaws.specs.Step.Step.{rotation, promotion, projection, correction, quarterTurn}
 use Rattle.amplitudelaws.specs.Acting.{acts, acted}
 use Rattle.amplitudelaws.specs.Book.Ring.{Ring}
 use Rattle.amplitudelaws.specs.Book.Complex.{exact}
@@ -60,16 +60,18 @@ apart e = suc-ne-zero 0 (ap (λ (a : Fin 7). a .0) e)
 holds : Book seven (residue 2)
 holds = book seven (residue 2) half-of-one
 
--- A run from basis 0: turned by Y to (1, 1) h, a qubit (1, i) h put above it, X measured on the lower one, and Z fired, which leaves (1, -i) h.
+-- A run from basis 0: turned by Y to (1, 1) h, a qubit (1, i) h put above it, X measured on the lower one, Z fired, which leaves (1, -i) h, and a quarter turn
+-- of Z, which leaves (1 - i, 1 - i) h h, where h h is a half.
 abbrev ended : ℕ → Amplitude (Fin 7)
 ended =
     acted (exact seven (residue 2)) 1
     (rotation (record { n = 1; k = 1; x = 1; z = 1 }) 0 (residue 2) (residue 2)
     ∷ promotion (residue 2) (residue 2)
     ∷ projection (record { n = 2; k = 0; x = 1; z = 0 }) 0 0 (residue 1)
-    ∷ correction (record { n = 1; k = 0; x = 0; z = 1 }) ∷ [])
+    ∷ correction (record { n = 1; k = 0; x = 0; z = 1 })
+    ∷ quarterTurn (record { n = 1; k = 0; x = 0; z = 1 }) ∷ [])
     (λ b. record { re = residue (1 - b); im = residue 0 })
 
-runs : (ended 0 .re .0 ≡ 2) × (ended 0 .im .0 ≡ 0) × (ended 1 .re .0 ≡ 0) × (ended 1 .im .0 ≡ 5)
-unfolding seven acted acts widthAfter rotated rotatedBy rotationCoefficient promoted raised projected remaining remainingBy projectionCoefficient corrected power times conjugate quarters direction scale scaled mixed openBit overlap ones
+runs : (ended 0 .re .0 ≡ 4) × (ended 0 .im .0 ≡ 3) × (ended 1 .re .0 ≡ 4) × (ended 1 .im .0 ≡ 3)
+unfolding seven acted acts widthAfter rotated rotatedBy rotatedAlone rotationCoefficient promoted raised projected remaining remainingBy projectionCoefficient corrected power times conjugate timesPower direction negated scale scaled mixed openBit overlap ones
 runs = (refl, refl, refl, refl)

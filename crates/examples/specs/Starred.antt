@@ -37,20 +37,20 @@ use Rattle.runlaws.specs.Calls.{onRun, carryingRow, carriedRun, carrying}
 use Rattle.examples.specs.Runs.{zero, one, runFrom, rotation, projection, outputFor, filledWith}
 
 -- the Pauli that a text spells
-pauli : List ℕ → Pauli
+unfoldable pub pauli : List ℕ → Pauli
 pauli text = valueOr (identity 0) (readCall text)
 
 -- texts, as ASCII codes
-abbrev X : List ℕ
+abbrev pub X : List ℕ
 X = 88 ∷ []
 
-abbrev Z : List ℕ
+abbrev pub Z : List ℕ
 Z = 90 ∷ []
 
 abbrev ZZ : List ℕ
 ZZ = 90 ∷ 90 ∷ []
 
-abbrev Y : List ℕ
+abbrev pub Y : List ℕ
 Y = 89 ∷ []
 
 abbrev iY : List ℕ
@@ -75,7 +75,7 @@ abbrev phase : ℕ → Pauli
 phase k = record { n = 0; k = k; x = 0; z = 0 }
 
 -- what carrying a Pauli through a run gives, into an output of other bytes, longer by one: the end Pauli, and the carried run in it, the last byte as it was
-abbrev Carries : List ℕ → Pauli → List ℕ → Pauli → Type 0
+abbrev pub Carries : List ℕ → Pauli → List ℕ → Pauli → Type 0
 Carries run Q carried end = carrying widestRun run Q (outputFor run) ≡ record { answer = accepted end; lent = filledWith carried }
 
 record Starred : Type 0 where

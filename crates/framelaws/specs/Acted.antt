@@ -9,7 +9,7 @@ use Rattle.amplitudelaws.specs.Binary.{binary}
 use Rattle.amplitudelaws.specs.State.{point, room}
 use Rattle.amplitudelaws.specs.Steps as leaves
 use Rattle.amplitudelaws.specs.Step.{Step, widthAfter, lastWidth}
-use Rattle.amplitudelaws.specs.Step.Step.{rotation, promotion, projection, correction}
+use Rattle.amplitudelaws.specs.Step.Step.{rotation, promotion, projection, correction, quarterTurn}
 use Rattle.amplitudelaws.specs.Acting.{acts, acted, Proper, Propers}
 use Rattle.amplitudelaws.specs.Near.{acted-near}
 use Rattle.framelaws.specs.Rows.{stepRow}
@@ -18,7 +18,7 @@ use Rattle.framelaws.specs.Memory.{Memory, stepped, ran}
 use Rattle.framelaws.specs.Allowed.{Placed, Allowed}
 use Rattle.framelaws.specs.Kept.{stepped-sizes, room-kept, room-under, point-written}
 use Rattle.framelaws.specs.Surveyed.{survey-greatest, survey-greatest-rest}
-use Rattle.framelaws.specs.Passing.{rotation-fitting, rotation-real, correction-fitting, projection-measurable}
+use Rattle.framelaws.specs.Passing.{rotation-fitting, rotation-real, correction-fitting, projection-measurable, quarter-turn-fitting, quarter-turn-real}
 
 -- ---- a step that no row refuses is proper
 
@@ -28,6 +28,7 @@ allowed-proper limit n (rotation P sign c s) h e = (h, rotation-fitting P sign c
 allowed-proper limit n (promotion c q) h e = tt
 allowed-proper limit n (projection M p v invnorm) h e = (h, projection-measurable M p v invnorm e)
 allowed-proper limit n (correction P) h e = (h, correction-fitting P e)
+allowed-proper limit n (quarterTurn P) h e = (h, quarter-turn-fitting P e, quarter-turn-real P e)
 
 pub allowed-propers : (limit n : ℕ) (ts : List (Step Float)) → Allowed limit n ts → Propers n ts
 allowed-propers limit n [] a = tt
@@ -43,6 +44,7 @@ module _ (n : ℕ) (m : Memory) where
   stepped-acts (promotion c q) e r b h = point-written (suc n) (suc n) _ (m .state) refl r b h
   stepped-acts (projection M p v invnorm) e r b h = point-written (M .n - 1) (n - 1) _ (m .state) (ap (λ (k : ℕ). k - 1) e) r b h
   stepped-acts (correction P) e r b h = point-written (P .n) n _ (m .state) e r b h
+  stepped-acts (quarterTurn P) e r b h = point-written (P .n) n _ (m .state) e r b h
 
 -- ---- all of them
 

@@ -3,6 +3,7 @@ use mathlib.Core.Path.{_≡_, subst}
 use lib.Dec.{T}
 use lib.Ieee.Scale.{finite}
 use Rattle.floatlaws.specs.Same.{Same, same, same-sym, _⨾_}
+use Rattle.floatlaws.specs.Finite.{finite-same}
 use Rattle.amplitudelaws.specs.Binary.{Point}
 
 pub record Alike (p q : Point) : Type 0 where
@@ -24,3 +25,6 @@ alike-eq {p} {q} h = subst (λ (r : Point). Alike p r) h alike
 -- neither part an infinity or a NaN
 abbrev pub Finite : Point → Type 0
 Finite p = T (finite (p .re)) × T (finite (p .im))
+
+pub finite-alike : {p q : Point} → Alike p q → Finite q → Finite p
+finite-alike h f = (finite-same (same-sym (h .res)) (f .0), finite-same (same-sym (h .ims)) (f .1))

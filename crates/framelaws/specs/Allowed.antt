@@ -8,7 +8,7 @@ use Rattle.framelaws.specs.Alike.{Finite}
 use Rattle.framelaws.specs.Memory.{Memory, stepped}
 use Rattle.framelaws.specs.Rows.{stepRow}
 use Rattle.amplitudelaws.specs.Step.{Step, widthAfter}
-use Rattle.amplitudelaws.specs.Step.Step.{rotation, promotion, projection, correction}
+use Rattle.amplitudelaws.specs.Step.Step.{rotation, promotion, projection, correction, quarterTurn}
 
 -- a step's Pauli is on n qubits
 abbrev pub Placed : ℕ → Step Float → Type 0
@@ -16,6 +16,7 @@ Placed n (rotation P sign c s) = P .n ≡ n
 Placed n (promotion c q) = Unit
 Placed n (projection M p v invnorm) = M .n ≡ n
 Placed n (correction P) = P .n ≡ n
+Placed n (quarterTurn P) = P .n ≡ n
 
 -- each step at its width, under a limit on it
 abbrev pub Allowed : ℕ → ℕ → List (Step Float) → Type 0

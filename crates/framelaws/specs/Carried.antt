@@ -10,7 +10,7 @@ use Rattle.answers.specs.Row.{row, first, first-passed, first-none}
 use Rattle.bitlaws.specs.Digit.{mod-two}
 use Rattle.paulilaws.specs.Pauli.{Pauli, anti}
 use Rattle.amplitudelaws.specs.Step.{Step, widthAfter}
-use Rattle.amplitudelaws.specs.Step.Step.{rotation, promotion, projection, correction}
+use Rattle.amplitudelaws.specs.Step.Step.{rotation, promotion, projection, correction, quarterTurn}
 use Rattle.framelaws.specs.Rows.{rotationStepRow, projectionStepRow, stepRow}
 use Rattle.framelaws.specs.Carrying.{flipped, carriedStep, passed, carriedSteps}
 use Rattle.framelaws.specs.Survey.{Survey, surveyed, surveyFrom, outset, survey, mixedAmplitudes}
@@ -25,6 +25,7 @@ module _ {R : Type 0} where
   flagless-carried f signs branches Q (promotion c q) = refl
   flagless-carried f signs branches Q (projection M p v invnorm) = branches M p (flipped Q M v) v invnorm
   flagless-carried f signs branches Q (correction P) = refl
+  flagless-carried f signs branches Q (quarterTurn P) = refl
 
   pub after-carried : (n : ℕ) (Q : Pauli) (t : Step R) → widthAfter n (carriedStep Q t) ≡ widthAfter n t
   unfolding widthAfter
@@ -65,3 +66,4 @@ row-carried limit n Q (rotation P sign c s) e = reflagged _ sign Q P e
 row-carried limit n Q (promotion c q) e = e
 row-carried limit n Q (projection M p v invnorm) e = reflagged _ v Q M e
 row-carried limit n Q (correction P) e = e
+row-carried limit n Q (quarterTurn P) e = e

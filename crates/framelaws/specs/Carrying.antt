@@ -7,7 +7,7 @@ use Rattle.bitlaws.specs.Digit.{digit}
 use Rattle.paulilaws.specs.Pauli.{Pauli, product, anti}
 use Rattle.paulilaws.specs.Frame.{raised, dropped}
 use Rattle.amplitudelaws.specs.Step.{Step}
-use Rattle.amplitudelaws.specs.Step.Step.{rotation, promotion, projection, correction}
+use Rattle.amplitudelaws.specs.Step.Step.{rotation, promotion, projection, correction, quarterTurn}
 
 -- a sign or a branch, flipped where Q and P anticommute
 unfoldable pub flipped : Pauli → Pauli → ℕ → ℕ
@@ -31,6 +31,14 @@ absorbed false M v Q = Q
 unfoldable pub widened : Pauli → Pauli
 widened Q = record { n = suc (Q .n); k = Q .k; x = Q .x; z = Q .z }
 
+-- Q behind a quarter turn of P: t says that they anticommute
+unfoldable pub turnedBy : Bool → Pauli → Pauli → Pauli
+turnedBy true P Q = raised 3 (product P Q)
+turnedBy false P Q = Q
+
+unfoldable pub turnedPast : Pauli → Pauli → Pauli
+turnedPast Q P = turnedBy (eqb (anti Q P) 1) P Q
+
 module _ {R : Type 0} where
   -- the step that Q leaves behind it
   unfoldable pub carriedStep : Pauli → Step R → Step R
@@ -38,6 +46,7 @@ module _ {R : Type 0} where
   carriedStep Q (promotion c q) = promotion c q
   carriedStep Q (projection M p v invnorm) = projection M p (flipped Q M v) invnorm
   carriedStep Q (correction P) = correction P
+  carriedStep Q (quarterTurn P) = quarterTurn P
 
   -- and what Q is then
   unfoldable pub passed : Pauli → Step R → Pauli
@@ -45,6 +54,7 @@ module _ {R : Type 0} where
   passed Q (promotion c q) = widened Q
   passed Q (projection M p v invnorm) = dropped p (absorbed (meets M p Q) M (flipped Q M v) Q)
   passed Q (correction P) = raised (2 * anti Q P) Q
+  passed Q (quarterTurn P) = turnedPast Q P
 
   unfoldable pub carriedSteps : Pauli → List (Step R) → List (Step R)
   carriedSteps Q [] = []

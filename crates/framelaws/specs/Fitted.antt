@@ -2,26 +2,22 @@
 use mathlib.Core.Path.{_≡_, refl, sym, ap, _∙_, subst}
 use mathlib.Core.Bool.{Bool, true, false}
 use mathlib.Core.List.{List, [], _∷_}
-use Prim.Native.Nat.{ℕ, suc, _+_, _-_, _^_, _≤_, _<_}
+use Prim.Native.Nat.{ℕ, suc, _-_, _^_, _≤_, _<_}
 use native.Mathlib.Omega.{arith}
 use lib.Ieee.{Float}
 use lib.Pow.{pow-lt}
 use Rattle.bitlaws.specs.Opening.{drop-lt}
 use Rattle.paulilaws.specs.Pauli.{Pauli, product}
-use Rattle.paulilaws.specs.Fitting.{Fitting, phase-small, product-fitting}
-use Rattle.paulilaws.specs.Frame.{raised, dropped}
+use Rattle.paulilaws.specs.Fitting.{Fitting, product-fitting}
+use Rattle.paulilaws.specs.Frame.{raised, dropped, raised-fitting}
 use Rattle.amplitudelaws.specs.Step.{Step, widthAfter, lastWidth}
-use Rattle.amplitudelaws.specs.Step.Step.{rotation, promotion, projection, correction}
+use Rattle.amplitudelaws.specs.Step.Step.{rotation, promotion, projection, correction, quarterTurn}
 use Rattle.framelaws.specs.Rows.{stepRow}
-use Rattle.framelaws.specs.Carrying.{absorbed, widened, passed, endPauli}
+use Rattle.framelaws.specs.Carrying.{absorbed, widened, turnedBy, turnedPast, passed, endPauli}
 use Rattle.framelaws.specs.Allowed.{Placed, Allowed}
-use Rattle.framelaws.specs.Passing.{promotion-below, projection-measurable}
+use Rattle.framelaws.specs.Passing.{promotion-below, projection-measurable, quarter-turn-fitting}
 
 -- ---- what carrying does to a Pauli
-
-pub raised-fitting : (e : ℕ) {P : Pauli} → Fitting P → Fitting (raised e P)
-unfolding raised
-raised-fitting e {P} f = record { phase = phase-small (P .k + e); xs = f .xs; zs = f .zs }
 
 pub widened-fitting : {P : Pauli} → Fitting P → Fitting (widened P)
 unfolding widened
@@ -57,6 +53,18 @@ module _ (M : Pauli) (v : ℕ) (Q : Pauli) where
   pub remaining-fitting : (t : Bool) (p : ℕ) → p < Q .n → M .n ≡ Q .n → Fitting M → Fitting Q → Fitting (dropped p (absorbed t M v Q))
   remaining-fitting t p h e f g = dropped-fitting p (omega (arith, absorbed-width t)) (absorbed-fitting t e f g)
 
+-- behind a quarter turn
+module _ (P Q : Pauli) (e : P .n ≡ Q .n) where
+  pub turned-width : (t : Bool) → turnedBy t P Q .n ≡ Q .n
+  unfolding turnedBy raised product
+  turned-width true = omega (arith, e)
+  turned-width false = refl
+
+  pub turned-fitting : (t : Bool) → Fitting P → Fitting Q → Fitting (turnedBy t P Q)
+  unfolding turnedBy
+  turned-fitting true f g = raised-fitting _ (search (product-fitting, sym, e))
+  turned-fitting false f g = g
+
 -- ---- past a step, and past all
 
 -- a Pauli on a state of n qubits, n within the limit
@@ -67,7 +75,7 @@ pub record Fitted (limit n : ℕ) (Q : Pauli) : Type 0 where
 
 pub fitting-passed : (limit n : ℕ) (Q : Pauli) (t : Step Float) → n ≤ limit → Placed n t → stepRow limit n t ≡ 0 → Fitting Q → Q .n ≡ n
     → Fitted limit (widthAfter n t) (passed Q t)
-unfolding stepRow widthAfter passed widened dropped raised
+unfolding stepRow widthAfter passed widened dropped raised turnedPast
 fitting-passed limit n Q (rotation P sign c s) within h e f width = record { fitting = f; width = width; within = within }
 fitting-passed limit n Q (promotion c q) within h e f width =
     let below : n < limit = promotion-below limit n c q e in
@@ -82,6 +90,11 @@ fitting-passed limit n Q (projection M p v invnorm) within h e f width =
 fitting-passed limit n Q (correction P) within h e f width = record {
   fitting = raised-fitting _ f;
   width = width;
+  within = within;
+}
+fitting-passed limit n Q (quarterTurn P) within h e f width = record {
+  fitting = turned-fitting P Q (h ∙ sym width) _ (quarter-turn-fitting P e) f;
+  width = turned-width P Q (h ∙ sym width) _ ∙ width;
   within = within;
 }
 

@@ -1,4 +1,4 @@
--- A projection's coefficient is 1 / sqrt 2, turned; so its two amplitudes are scaled alike, and their sum is the same in either order.
+-- A coefficient that is 1 / sqrt 2, turned, as a projection's is: its two amplitudes are scaled alike, and their sum is the same in either order.
 use mathlib.Core.Path.{_≡_, refl, sym, ap, ap₂, _∙_}
 use mathlib.Core.Logic.{_⊎_, inl, inr, ⊎-elim}
 use mathlib.Core.Bool.{false}
@@ -11,31 +11,23 @@ use lib.Ieee.Fits.{add-fits, mul-fits}
 use lib.Ieee.Scale.{finite}
 use Rattle.floatlaws.specs.Same.{Same, same, isZero}
 use Rattle.floatlaws.specs.Sign.{mul-neg-left}
-use Rattle.floatlaws.specs.Sum.{zero-neg, add-neg, add-comm-float}
-use Rattle.floatlaws.specs.Product.{mul-zero-left}
+use Rattle.floatlaws.specs.Sum.{zero-neg, add-neg, add-comm-float, same-add}
+use Rattle.floatlaws.specs.Product.{same-mul, mul-zero-left}
 use Rattle.floatlaws.specs.Fit.{add-none-right, mul-one-fits}
 use Rattle.floatlaws.specs.Rules.{Sign·simp, zero-swap}
 use Rattle.amplitudelaws.specs.Arithmetic.{power, conjugate, direction, scale, scaled, mixed}
 use Rattle.amplitudelaws.specs.Binary.{Point, binary}
 use Rattle.amplitudelaws.specs.Projection.{projectionCoefficient}
 use Rattle.amplitudelaws.specs.Sweeping.{point-same}
-use Rattle.framelaws.specs.Alike.{Alike, alike, alike-sym, alike-trans, alike-eq, Finite}
+use Rattle.framelaws.specs.Alike.{Alike, alike, alike-sym, alike-trans, alike-eq, Finite, finite-alike}
 use Rattle.framelaws.specs.Turns.{turn, turns, turns-add, turns-mod, turns-turns, alike-turn, alike-turns, finite-turns}
 use Rattle.framelaws.specs.Turning.{direction-suc, alike-mixed}
 
--- ---- the coefficient
+-- ---- the coefficient, with a sign
 
 -- 1 / sqrt 2
 abbrev pub root : Point
 root = record { re = binary .h; im = binary .nought }
-
-coefficient-turns : (k : ℕ) → k ≤ 3 → Alike (projectionCoefficient binary k) (turns (3 * k) root)
-unfolding projectionCoefficient scaled conjugate power mul neg ofBits
-coefficient-turns zero h = record { res = record { plainly = refl }; ims = record { plainly = refl } }
-coefficient-turns (suc zero) h = record { res = record { plainly = refl }; ims = record { plainly = refl } }
-coefficient-turns (suc (suc zero)) h = record { res = record { plainly = refl }; ims = record { plainly = refl } }
-coefficient-turns (suc (suc (suc zero))) h = record { res = record { plainly = refl }; ims = record { plainly = refl } }
-coefficient-turns (suc (suc (suc (suc k)))) h = absurd (omega arith)
 
 direction-zero : direction binary 0 ≡ fin false 1 (pos 0)
 unfolding direction ofBits
@@ -50,12 +42,6 @@ direction-turns (suc a) u r i =
     let next : 2 * suc a ≡ 2 + 2 * a = omega arith in
     rw (next, turns-add 2 (2 * a) u, direction-suc a, mul-neg-left binary64 (direction binary a) (u .re), mul-neg-left binary64 (direction binary a) (u .im))
     (alike-turns 2 (direction-turns a u r i))
-
-signed-turns : (a k : ℕ) → k ≤ 3 → Alike (scale binary (direction binary a) (projectionCoefficient binary k)) (turns (2 * a + 3 * k) root)
-unfolding projectionCoefficient scaled
-signed-turns a k h =
-    alike-trans (direction-turns a (projectionCoefficient binary k) (mul-fits binary64 _ _) (mul-fits binary64 _ _))
-    (alike-trans (alike-turns (2 * a) (coefficient-turns k h)) (alike-eq (sym (turns-add (2 * a) (3 * k) root))))
 
 -- ---- the coefficient's turns are the second amplitude's
 
@@ -126,25 +112,54 @@ mixed-root p q f =
       ims = last-zero (times (p .im)) (times (q .im)) (none (q .re)) (mul-zero-left binary64 (binary .nought) (q .re) nought-zero (f .0));
     }
 
--- the formula of a projection with an X part, for a measured Pauli's phase k: the coefficient's sign is -1 where a is odd
+-- a coefficient u that is 1 / sqrt 2, turned by e
+pub mixed-halves : (e : ℕ) (u p q : Point) → Alike u (turns e root) → Finite q → Alike (mixed binary (binary .h) u p q) (halves p (turns e q))
+mixed-halves e u p q h f =
+    alike-trans (alike-mixed same h alike alike)
+    (alike-trans (mixed-axes (binary .h) e root p q f (inr nought-zero)) (mixed-root p (turns e q) (finite-turns e q f)))
+
+-- the two amplitudes exchanged: r and s are q and p, turned by g and d, and the whole is turned by e
+pub halves-exchange : (t t' d g e : ℕ) {r s : Point} (p q : Point) → Alike r (turns g q) → Alike s (turns d p)
+    → (t + d) % 4 ≡ e % 4 → g % 4 ≡ (e + t') % 4 → Alike (halves r (turns t s)) (turns e (halves p (turns t' q)))
+halves-exchange t t' d g e p q first second one two =
+    let left : turns t (turns d p) ≡ turns e p = sym (turns-add t d p) ∙ turns-mod (t + d) e p one in
+    let right : turns g q ≡ turns e (turns t' q) = turns-mod g (e + t') q two ∙ turns-add e t' q in
+    alike-trans (alike-halves first (alike-turns t second))
+    (alike-trans (alike-eq (halves-comm (turns g q) (turns t (turns d p)) ∙ ap₂ halves left right)) (halves-turns e p (turns t' q)))
+  where
+    alike-halves : {p p' q q' : Point} → Alike p p' → Alike q q' → Alike (halves p q) (halves p' q')
+    alike-halves h k = record {
+      res = same-add binary64 (same-mul binary64 same (h .res)) (same-mul binary64 same (k .res));
+      ims = same-add binary64 (same-mul binary64 same (h .ims)) (same-mul binary64 same (k .ims));
+    }
+
+-- ---- a projection with an X part
+
+projection-turns : (k : ℕ) → k ≤ 3 → Alike (projectionCoefficient binary k) (turns (3 * k) root)
+unfolding projectionCoefficient scaled conjugate power mul neg ofBits
+projection-turns zero h = record { res = record { plainly = refl }; ims = record { plainly = refl } }
+projection-turns (suc zero) h = record { res = record { plainly = refl }; ims = record { plainly = refl } }
+projection-turns (suc (suc zero)) h = record { res = record { plainly = refl }; ims = record { plainly = refl } }
+projection-turns (suc (suc (suc zero))) h = record { res = record { plainly = refl }; ims = record { plainly = refl } }
+projection-turns (suc (suc (suc (suc k)))) h = absurd (omega arith)
+
+projection-signed : (a k : ℕ) → k ≤ 3 → Alike (scale binary (direction binary a) (projectionCoefficient binary k)) (turns (2 * a + 3 * k) root)
+unfolding projectionCoefficient scaled
+projection-signed a k h =
+    alike-trans (direction-turns a (projectionCoefficient binary k) (mul-fits binary64 _ _) (mul-fits binary64 _ _))
+    (alike-trans (alike-turns (2 * a) (projection-turns k h)) (alike-eq (sym (turns-add (2 * a) (3 * k) root))))
+
+-- its formula, for a measured Pauli's phase k: the coefficient's sign is -1 where a is odd
 abbrev pub mixture : ℕ → ℕ → Point → Point → Point
 mixture k a p q = mixed binary (binary .h) (scale binary (direction binary a) (projectionCoefficient binary k)) p q
 
 mixture-halves : (k a : ℕ) (p q : Point) → k ≤ 3 → Finite q → Alike (mixture k a p q) (halves p (turns (2 * a + 3 * k) q))
 mixture-halves k a p q h f =
-    let e : ℕ = 2 * a + 3 * k in
-    alike-trans (alike-mixed same (signed-turns a k h) alike alike)
-    (alike-trans (mixed-axes (binary .h) e root p q f (inr nought-zero)) (mixed-root p (turns e q) (finite-turns e q f)))
+    mixed-halves (2 * a + 3 * k) (scale binary (direction binary a) (projectionCoefficient binary k)) p q (projection-signed a k h) f
 
--- the two amplitudes exchanged: r and s are q and p, turned by g and d, and the whole is turned by e
 pub mixture-exchange : (k a a' d g e : ℕ) {r s : Point} (p q : Point) → k ≤ 3 → Finite p → Finite q → Alike r (turns g q) → Alike s (turns d p)
     → (2 * a + 3 * k + d) % 4 ≡ e % 4 → g % 4 ≡ (e + (2 * a' + 3 * k)) % 4 → Alike (mixture k a r s) (turns e (mixture k a' p q))
-mixture-exchange k a a' d g e p q h fp fq first second one two =
-    let t : ℕ = 2 * a + 3 * k in
-    let t' : ℕ = 2 * a' + 3 * k in
-    let left : turns t (turns d p) ≡ turns e p = sym (turns-add t d p) ∙ turns-mod (t + d) e p one in
-    let right : turns g q ≡ turns e (turns t' q) = turns-mod g (e + t') q two ∙ turns-add e t' q in
-    alike-trans (alike-mixed same alike first second)
-    (alike-trans (mixture-halves k a (turns g q) (turns d p) h (finite-turns d p fp))
-    (alike-trans (alike-eq (halves-comm (turns g q) (turns t (turns d p)) ∙ ap₂ halves left right))
-    (alike-trans (halves-turns e p (turns t' q)) (alike-turns e (alike-sym (mixture-halves k a' p q h fq))))))
+mixture-exchange k a a' d g e {r} {s} p q h fp fq first second one two =
+    alike-trans (mixture-halves k a r s h (finite-alike second (finite-turns d p fp)))
+    (alike-trans (halves-exchange (2 * a + 3 * k) (2 * a' + 3 * k) d g e p q first second one two)
+    (alike-turns e (alike-sym (mixture-halves k a' p q h fq))))

@@ -18,7 +18,7 @@ use Rattle.amplitudelaws.specs.Steps as leaves
 use Rattle.amplitudelaws.specs.Sweeping.{point-same}
 use Rattle.framelaws.specs.Memory.{Memory, stepped, ran}
 use Rattle.amplitudelaws.specs.Step.{Step, widthAfter}
-use Rattle.amplitudelaws.specs.Step.Step.{rotation, promotion, projection, correction}
+use Rattle.amplitudelaws.specs.Step.Step.{rotation, promotion, projection, correction, quarterTurn}
 
 -- ---- lengths
 
@@ -56,6 +56,7 @@ stepped-sizes n (projection M p v invnorm) m = record {
   scratch = scratch-lengths (eqb (M .x) 0) M p v invnorm (m .state) (m .scratch);
 }
 stepped-sizes n (correction P) m = record { state = written-lengths _ _ (m .state); scratch = unwritten }
+stepped-sizes n (quarterTurn P) m = record { state = written-lengths _ _ (m .state); scratch = unwritten }
 
 pub ran-sizes : (n : ℕ) (ts : List (Step Float)) (m : Memory) → SameSizes (ran n ts m) m
 unfolding ran

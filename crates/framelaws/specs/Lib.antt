@@ -14,6 +14,9 @@ pub mod Basis
 pub mod Diagonal
 pub mod Mixing
 pub mod Projecting
+pub mod QuarterTurn
+pub mod TurnedHalves
+pub mod PastQuarterTurn
 pub mod Kept
 pub mod Surveyed
 pub mod Carried

@@ -15,7 +15,7 @@ use Rattle.amplitudelaws.specs.Correction.{corrected}
 use Rattle.amplitudelaws.specs.State.{State, point, written, room}
 use Rattle.amplitudelaws.specs.Steps as leaves
 use Rattle.amplitudelaws.specs.Step.{Step, widthAfter, lastWidth}
-use Rattle.amplitudelaws.specs.Step.Step.{rotation, promotion, projection, correction}
+use Rattle.amplitudelaws.specs.Step.Step.{rotation, promotion, projection, correction, quarterTurn}
 use Rattle.framelaws.specs.Rows.{stepRow}
 use Rattle.framelaws.specs.Carrying.{carriedStep, passed, carriedSteps, endPauli}
 use Rattle.framelaws.specs.Survey.{survey}
@@ -24,11 +24,12 @@ use Rattle.framelaws.specs.Alike.{Alike, Finite}
 use Rattle.framelaws.specs.Allowed.{Placed, Allowed, FiniteState, FiniteSteps}
 use Rattle.framelaws.specs.Framed.{Framed}
 use Rattle.framelaws.specs.Past.{framed-corrected, corrected-framed, past-correction, past-rotation, past-promotion}
+use Rattle.framelaws.specs.PastQuarterTurn.{past-quarter-turn}
 use Rattle.framelaws.specs.Projecting.{past-projection}
 use Rattle.framelaws.specs.Kept.{written-lengths, stepped-sizes, ran-sizes, room-kept, room-under, point-written}
 use Rattle.framelaws.specs.Surveyed.{survey-greatest, survey-greatest-rest, survey-greatest-last}
 use Rattle.framelaws.specs.Carried.{after-carried}
-use Rattle.framelaws.specs.Passing.{rotation-fitting, correction-fitting, projection-measurable}
+use Rattle.framelaws.specs.Passing.{rotation-fitting, correction-fitting, projection-measurable, quarter-turn-fitting, quarter-turn-real}
 use Rattle.framelaws.specs.Fitted.{fitting-passed, fitting-end}
 
 -- only the amplitudes of the n qubits count
@@ -66,6 +67,9 @@ module _ (limit n : ℕ) (Q : Pauli) (m u : Memory) (width : Q .n ≡ n) (fits :
   past-step (correction P) h e hx rm ru =
       framed-written n _ _ _ (m .state) (u .state) hx rm ru (P .n) h
       (past-correction n Q P (rw h at (correction-fitting P e .xs)) w)
+  past-step (quarterTurn P) h e hx rm ru =
+      framed-written n _ _ _ (m .state) (u .state) hx rm ru (P .n) h
+      (past-quarter-turn n Q P (quarter-turn-fitting P e) h (quarter-turn-real P e) (finite .at) w)
 
 -- ---- all of them
 

@@ -3,9 +3,10 @@ use mathlib.Core.List.{List, [], _∷_}
 use Prim.Native.Nat.{ℕ}
 use lib.Ieee.{Float}
 pub use Rattle.amplitudelaws.specs.Memory.{Memory, memoryOf}
+use Rattle.amplitudelaws.specs.Binary.{binary}
 use Rattle.amplitudelaws.specs.Steps as leaves
 use Rattle.amplitudelaws.specs.Step.{Step, widthAfter}
-use Rattle.amplitudelaws.specs.Step.Step.{rotation, promotion, projection, correction}
+use Rattle.amplitudelaws.specs.Step.Step.{rotation, promotion, projection, correction, quarterTurn}
 
 -- the step's own definition on the state of n qubits, and what it leaves in the scratch
 unfoldable pub stepped : ℕ → Step Float → Memory → Memory
@@ -16,6 +17,7 @@ stepped n (projection M p v invnorm) m = record {
   scratch = leaves.scratchAfter M p v invnorm (m .state) (m .scratch);
 }
 stepped n (correction P) m = record { state = leaves.correction P (m .state); scratch = m .scratch }
+stepped n (quarterTurn P) m = record { state = leaves.rotation P 0 (binary .h) (binary .h) (m .state); scratch = m .scratch }
 
 -- one step after the other
 unfoldable pub ran : ℕ → List (Step Float) → Memory → Memory

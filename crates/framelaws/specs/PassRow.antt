@@ -7,7 +7,7 @@ use Rattle.answers.specs.Answer.{Answer}
 use Rattle.answers.specs.Row.{row, first, answered}
 use Rattle.paulilaws.specs.Pauli.{Pauli, fits, identity}
 use Rattle.amplitudelaws.specs.Step.{Step}
-use Rattle.amplitudelaws.specs.Step.Step.{rotation, promotion, projection, correction}
+use Rattle.amplitudelaws.specs.Step.Step.{rotation, promotion, projection, correction, quarterTurn}
 use Rattle.framelaws.specs.Carrying.{widened, carriedStep, passed}
 
 -- 3: one of the two is no Pauli, 4: they are not on the same number of qubits
@@ -25,6 +25,7 @@ module _ {R : Type 0} where
   passRow Q (promotion c q) = widenedRow Q
   passRow Q (projection M p v invnorm) = first (pairRow Q M) (row (leb (Q .n) p) 10 0)
   passRow Q (correction P) = pairRow Q P
+  passRow Q (quarterTurn P) = pairRow Q P
 
 -- the step that a Pauli leaves behind it, and the Pauli then
 pub record Passage (R : Type 0) : Type 0 where
@@ -50,6 +51,7 @@ record Examples {R : Type 0} (c : R) : Type 0 where
   rotation-widths : passRow (identity 2) (rotation (identity 3) 0 c c) ≡ 4
   projection-widths : passRow (identity 2) (projection (identity 3) 2 0 c) ≡ 4
   correction-widths : passRow {R = R} (identity 3) (correction (identity 2)) ≡ 4
+  quarter-turn-widths : passRow {R = R} (identity 3) (quarterTurn (identity 2)) ≡ 4
   pivot : passRow (identity 2) (projection (identity 2) 2 0 c) ≡ 10
   no-qubit : passRow (identity 0) (projection (identity 0) 0 0 c) ≡ 10
   not-promoted : passRow (overhanging 1) (promotion c c) ≡ 3
@@ -65,6 +67,7 @@ examples c = record {
   rotation-widths = refl;
   projection-widths = refl;
   correction-widths = refl;
+  quarter-turn-widths = refl;
   pivot = refl;
   no-qubit = refl;
   not-promoted = refl;

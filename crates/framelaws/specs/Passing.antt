@@ -14,7 +14,7 @@ use Rattle.amplitudelaws.specs.Acting.{Measurable}
 use Rattle.amplitudelaws.specs.Passed.{width-passed, hermitian-passed, hermitian-real, rotation-passed, measurement-passed}
 use Rattle.amplitudelaws.specs.Rows.{widthRow, hermitianRow, unitRow, rotationKernelRow, measurementRow, promotedWidthRow, widestKernel}
 use Rattle.amplitudelaws.specs.Step.{Step, widthAfter}
-use Rattle.amplitudelaws.specs.Step.Step.{rotation, promotion, projection, correction}
+use Rattle.amplitudelaws.specs.Step.Step.{rotation, promotion, projection, correction, quarterTurn}
 use Rattle.framelaws.specs.Rows.{stepRow, rotationStepRow, promotionStepRow, projectionStepRow}
 
 module _ (P : Pauli) (sign : ℕ) (c s : Float) where
@@ -38,6 +38,13 @@ promotion-below limit n c q e =
 pub correction-fitting : (P : Pauli) → widthRow widestKernel P ≡ 0 → Fitting P
 correction-fitting P e = width-passed widestKernel P e .0
 
+module _ (P : Pauli) (e : hermitianRow widestKernel P ≡ 0) where
+  pub quarter-turn-fitting : Fitting P
+  quarter-turn-fitting = hermitian-passed widestKernel P e .0
+
+  pub quarter-turn-real : hermitian P ≡ true
+  quarter-turn-real = hermitian-real widestKernel P e
+
 pub projection-measurable : (M : Pauli) (p v : ℕ) (invnorm : Float) → projectionStepRow M p v invnorm ≡ 0 → Measurable M p
 unfolding projectionStepRow measurementRow
 projection-measurable M p v invnorm e =
@@ -58,3 +65,4 @@ width-kept limit n (rotation P sign c s) h e = h
 width-kept limit n (promotion c q) h e = promotion-below limit n c q e
 width-kept limit n (projection M p v invnorm) h e = omega arith
 width-kept limit n (correction P) h e = h
+width-kept limit n (quarterTurn P) h e = h

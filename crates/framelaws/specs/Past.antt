@@ -21,14 +21,14 @@ use Rattle.amplitudelaws.specs.Promotion.{promoted, promoted-low, promoted-high
 use Rattle.amplitudelaws.specs.Correction.{corrected}
 use Rattle.framelaws.specs.Carrying.{flipped, widened}
 use Rattle.framelaws.specs.Alike.{Alike, alike-trans, alike-eq}
-use Rattle.framelaws.specs.Turns.{turns, turns-turns, quarters-turns, alike-turns}
+use Rattle.framelaws.specs.Turns.{turns, turns-turns, times-power-turns, alike-turns}
 use Rattle.framelaws.specs.Turning.{steady, paired, scale-steady, raised-steady, rotatedAlone-steady, rotatedWith-pairing, mixed-pairing}
 use Rattle.framelaws.specs.Framed.{Framed}
 
 pub corrected-turns : (P : Pauli) (F : ℕ → Point) (b : ℕ)
     → corrected binary P F b ≡ turns (P .k + 2 * overlap (bitXor b (P .x)) (P .z)) (F (bitXor b (P .x)))
 unfolding corrected
-corrected-turns P F b = quarters-turns (P .k + 2 * overlap (bitXor b (P .x)) (P .z)) (F (bitXor b (P .x)))
+corrected-turns P F b = times-power-turns (P .k + 2 * overlap (bitXor b (P .x)) (P .z)) (F (bitXor b (P .x)))
 
 -- ---- Q fired as a correction is the frame Q
 

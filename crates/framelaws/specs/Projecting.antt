@@ -2,12 +2,11 @@
 -- deciding part at the pivot, and it loses the pivot's qubit.
 use mathlib.Core.Path.{_≡_, refl}
 use mathlib.Core.Bool.{Bool, true, false, cond}
-use mathlib.Core.Logic.{⊎-elim}
 use Prim.Native.Nat.{ℕ, suc, _+_, _*_, _%_, _^_, _≤_, _<_}
 use lib.Dec.{eqb}
-use borrow.Author.Tests.{eqb-true, eqb-false}
+use borrow.Author.Tests.{eqb-true}
 use lib.Ieee.{Float}
-use Rattle.bitlaws.specs.Digit.{digit, set-or-clear}
+use Rattle.bitlaws.specs.Digit.{digit, digit-lt, not-one}
 use Rattle.bitlaws.specs.Parity.{overlap}
 use Rattle.paulilaws.specs.Pauli.{Pauli, hermitian}
 use Rattle.paulilaws.specs.Algebra.{hermitian-parity}
@@ -28,10 +27,6 @@ use Rattle.framelaws.specs.Mixing.{mixed-kept, mixed-absorbed}
 framed-scaled : {n : ℕ} {Q : Pauli} (c : Float) {F G : ℕ → Point} → Framed n Q F G → Framed n Q (λ b. scaled binary (F b) c) (λ b. scaled binary (G b) c)
 framed-scaled {Q = Q} c {G = G} w = record { at = λ b h. steady (scaled-steady c) (Q .k + 2 * overlap b (Q .z)) (G b) (w .at b h) }
 
--- a digit that is not 1
-clear : (p a : ℕ) → eqb (digit p a) 1 ≡ false → digit p a ≡ 0
-clear p a e = ⊎-elim (λ (set : digit p a ≡ 1). absurd (eqb-false (digit p a) 1 e set)) (λ (none : digit p a ≡ 0). none) (set-or-clear p a)
-
 module _ (m p : ℕ) (Q M : Pauli) (v : ℕ) {F G : ℕ → Point} (fits : p ≤ m) (fitting : Fitting M) (width : M .n ≡ suc m) (even : M .k % 2 ≡ overlap (M .x) (M .z))
     (framed : Framed (suc m) Q F G) (finite : (b : ℕ) → b < 2 ^ suc m → Finite (G b)) where
   -- t says that M has no X part, u that Q has the deciding part at the pivot
@@ -39,9 +34,9 @@ module _ (m p : ℕ) (Q M : Pauli) (v : ℕ) {F G : ℕ → Point} (fits : p ≤
       → Framed m (dropped p (absorbed u M (flipped Q M v) Q)) (remaining binary M p v F) (remaining binary M p (flipped Q M v) G)
   unfolding deciding absorbed
   by-parts true true x d set = diagonal-absorbed m p Q M v fits (eqb-true (M .x) 0 x) set framed (fitting .phase) even (eqb-true (digit p (Q .z)) 1 d)
-  by-parts true false x d set = diagonal-kept m p Q M v fits (eqb-true (M .x) 0 x) set framed (clear p (Q .z) d)
+  by-parts true false x d set = diagonal-kept m p Q M v fits (eqb-true (M .x) 0 x) set framed (not-one (digit p (Q .z)) (digit-lt p (Q .z)) d)
   by-parts false true x d set = mixed-absorbed m p Q M v fits x (rw width at (fitting .xs)) framed (fitting .phase) even set finite (eqb-true (digit p (Q .x)) 1 d)
-  by-parts false false x d set = mixed-kept m p Q M v fits x (rw width at (fitting .xs)) framed (clear p (Q .x) d)
+  by-parts false false x d set = mixed-kept m p Q M v fits x (rw width at (fitting .xs)) framed (not-one (digit p (Q .x)) (digit-lt p (Q .x)) d)
 
 -- Nothing is asked of Q. That G is finite is used only where M has an X part and Q has one at the pivot: a zero times an infinity is a NaN.
 pub past-projection : (m p : ℕ) (Q M : Pauli) (v : ℕ) (invnorm : Float) {F G : ℕ → Point} → p ≤ m → Fitting M → M .n ≡ suc m → hermitian M ≡ true → digit p (pivotMask M) ≡ 1

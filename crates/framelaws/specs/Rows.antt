@@ -6,9 +6,9 @@ use lib.Ieee.{Float}
 use lib.Ieee.Scale.{finite}
 use Rattle.answers.specs.Row.{row, first}
 use Rattle.paulilaws.specs.Pauli.{Pauli}
-use Rattle.amplitudelaws.specs.Rows.{widthRow, unitRow, rotationKernelRow, measurementRow, promotedWidthRow, widestKernel}
+use Rattle.amplitudelaws.specs.Rows.{widthRow, hermitianRow, unitRow, rotationKernelRow, measurementRow, promotedWidthRow, widestKernel}
 use Rattle.amplitudelaws.specs.Step.{Step}
-use Rattle.amplitudelaws.specs.Step.Step.{rotation, promotion, projection, correction}
+use Rattle.amplitudelaws.specs.Step.Step.{rotation, promotion, projection, correction, quarterTurn}
 
 -- the kernel's own rows, then 14 for a sign or a branch over 1
 unfoldable pub rotationStepRow : Pauli → ℕ → Float → Float → ℕ
@@ -27,3 +27,4 @@ stepRow limit n (rotation P sign c s) = rotationStepRow P sign c s
 stepRow limit n (promotion c q) = promotionStepRow limit n c q
 stepRow limit n (projection M p v invnorm) = projectionStepRow M p v invnorm
 stepRow limit n (correction P) = widthRow widestKernel P
+stepRow limit n (quarterTurn P) = hermitianRow widestKernel P

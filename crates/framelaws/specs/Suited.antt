@@ -7,18 +7,18 @@ use lib.Dec.{leb, eqb, lit<}
 use lib.Ieee.{Float}
 use borrow.Author.Tests.{eqb-true, eq-eqb, leb-false, lt-leb, not-false}
 use Rattle.answers.specs.Row.{row, first, row-passed, first-passed}
-use Rattle.paulilaws.specs.Pauli.{Pauli, mostQubits, fits}
+use Rattle.paulilaws.specs.Pauli.{Pauli, mostQubits, fits, anti}
 use Rattle.paulilaws.specs.Fitting.{Fitting, Admitted, both-left, both-right, fits-admitted, admitted-fits, admitted-beside}
-use Rattle.paulilaws.specs.Frame.{raised, dropped}
+use Rattle.paulilaws.specs.Frame.{raised, dropped, raised-fitting}
 use Rattle.amplitudelaws.specs.Passed.{promoted-width-passed}
 use Rattle.amplitudelaws.specs.Rows.{promotedWidthRow, unitRow}
 use Rattle.amplitudelaws.specs.Step.{Step, widthAfter}
-use Rattle.amplitudelaws.specs.Step.Step.{rotation, promotion, projection, correction}
+use Rattle.amplitudelaws.specs.Step.Step.{rotation, promotion, projection, correction, quarterTurn}
 use Rattle.framelaws.specs.Rows.{promotionStepRow, stepRow}
-use Rattle.framelaws.specs.Carrying.{flipped, meets, widened, passed}
+use Rattle.framelaws.specs.Carrying.{flipped, meets, widened, turnedPast, passed}
 use Rattle.framelaws.specs.Allowed.{Placed}
-use Rattle.framelaws.specs.Passing.{rotation-fitting, correction-fitting, projection-measurable}
-use Rattle.framelaws.specs.Fitted.{raised-fitting, widened-fitting, absorbed-width, remaining-fitting}
+use Rattle.framelaws.specs.Passing.{rotation-fitting, correction-fitting, projection-measurable, quarter-turn-fitting}
+use Rattle.framelaws.specs.Fitted.{widened-fitting, absorbed-width, remaining-fitting, turned-width, turned-fitting}
 use Rattle.framelaws.specs.PassRow.{pairRow, widenedRow, passRow}
 
 -- two Paulis on the same qubits
@@ -34,6 +34,7 @@ module _ {R : Type 0} where
   Suited Q (promotion c q) = Admitted Q × (Q .n < mostQubits)
   Suited Q (projection M p v invnorm) = Paired Q M × (p < Q .n)
   Suited Q (correction P) = Paired Q P
+  Suited Q (quarterTurn P) = Paired Q P
 
 -- ---- no row refuses exactly where the two suit each other
 
@@ -73,6 +74,7 @@ module _ (Q : Pauli) where
         let rows = first-passed (pairRow Q M) (row (leb (Q .n) p) 10 0) e in
         (pair-passed Q M (rows .0), leb-false (Q .n) p (row-passed (leb (Q .n) p) 10 0 (lit< tt) (rows .1) .0))
     passed-suited (correction P) e = pair-passed Q P e
+    passed-suited (quarterTurn P) e = pair-passed Q P e
 
     pub suited-passed : (t : Step R) → Suited Q t → passRow Q t ≡ 0
     unfolding passRow widenedRow row first
@@ -80,18 +82,23 @@ module _ (Q : Pauli) where
     suited-passed (promotion c q) h = rw (admitted-fits Q (h .0), admitted-fits (widened Q) (widened-admitted (h .0) (h .1)))
     suited-passed (projection M p v invnorm) h = rw (paired-row Q M (h .0), lt-leb (Q .n) p (h .1))
     suited-passed (correction P) h = paired-row Q P h
+    suited-passed (quarterTurn P) h = paired-row Q P h
 
     -- ---- and then there is a Pauli behind the step, on the state's qubits
 
-    pub passed-width : (t : Step R) → passed Q t .n ≡ widthAfter (Q .n) t
-    unfolding passed widthAfter widened dropped raised
-    passed-width (rotation P sign c s) = refl
-    passed-width (promotion c q) = refl
-    passed-width (projection M p v invnorm) = ap (λ (n : ℕ). n - 1) (absorbed-width M (flipped Q M v) Q (meets M p Q))
-    passed-width (correction P) = refl
+    suited-width : (t : Step R) → Suited Q t → passed Q t .n ≡ widthAfter (Q .n) t
+    unfolding passed widthAfter widened dropped raised turnedPast
+    suited-width (rotation P sign c s) h = refl
+    suited-width (promotion c q) h = refl
+    suited-width (projection M p v invnorm) h = ap (λ (n : ℕ). n - 1) (absorbed-width M (flipped Q M v) Q (meets M p Q))
+    suited-width (correction P) h = refl
+    suited-width (quarterTurn P) h = turned-width P Q (sym (h .width)) (eqb (anti Q P) 1)
+
+    pub passed-width : (t : Step R) → passRow Q t ≡ 0 → passed Q t .n ≡ widthAfter (Q .n) t
+    passed-width t e = suited-width t (passed-suited t e)
 
     pub passed-admitted : (t : Step R) → passRow Q t ≡ 0 → Admitted (passed Q t)
-    unfolding passed dropped raised
+    unfolding passed dropped raised turnedPast
     passed-admitted t e = go t (passed-suited t e)
       where
         go : (t : Step R) → Suited Q t → Admitted (passed Q t)
@@ -106,6 +113,13 @@ module _ (Q : Pauli) where
               width = omega (arith, absorbed-width M v' Q met, pair .first .width);
             }
         go (correction P) h = record { fitting = raised-fitting _ (h .first .fitting); width = h .first .width }
+        go (quarterTurn P) h =
+            let same = sym (h .width) in
+            let t = eqb (anti Q P) 1 in
+            record {
+              fitting = turned-fitting P Q same t (h .second) (h .first .fitting);
+              width = omega (arith, turned-width P Q same t, h .first .width);
+            }
 
 -- ---- a step of a run that no row refuses can be passed by any Pauli on the state's qubits
 
@@ -123,6 +137,7 @@ module _ (limit n : ℕ) (Q : Pauli) (a : Admitted Q) (width : Q .n ≡ n) where
       let m = projection-measurable M p v invnorm e in
       (paired placed (m .fitting), omega (arith, m .inside))
   suited (correction P) placed e = paired placed (correction-fitting P e)
+  suited (quarterTurn P) placed e = paired placed (quarter-turn-fitting P e)
 
   pub step-passes : (t : Step Float) → Placed n t → stepRow limit n t ≡ 0 → passRow Q t ≡ 0
   step-passes t placed e = suited-passed Q t (suited t placed e)

@@ -4,7 +4,7 @@ use mathlib.Core.List.{List, [], _∷_}
 use Prim.Native.Nat.{ℕ, _+_, _-_, _^_, max}
 use lib.Dec.{eqb}
 use Rattle.amplitudelaws.specs.Step.{Step, widthAfter}
-use Rattle.amplitudelaws.specs.Step.Step.{rotation, promotion, projection, correction}
+use Rattle.amplitudelaws.specs.Step.Step.{rotation, promotion, projection, correction, quarterTurn}
 
 -- `scratch` is the number of amplitudes of the largest state that a projection with an X part has left, 0 where there was none
 pub record Survey : Type 0 where
@@ -20,6 +20,7 @@ module _ {R : Type 0} where
   mixedAmplitudes n (promotion c q) = 0
   mixedAmplitudes n (projection M p v invnorm) = cond (eqb (M .x) 0) 0 (2 ^ (n - 1))
   mixedAmplitudes n (correction P) = 0
+  mixedAmplitudes n (quarterTurn P) = 0
 
   -- one step further
   unfoldable pub surveyed : Survey → Step R → Survey

@@ -32,7 +32,7 @@ module _ {φ : Point → Point} (w : Steady φ) where
   pub steady : (e : ℕ) {r : Point} (p : Point) → Alike r (turns e p) → Alike (φ r) (turns e (φ p))
   steady e p h = alike-trans (w .cong h) (steadies e p)
 
--- ---- a formula of a sign and two amplitudes that turns with them: a half turn of the second flips the sign
+-- ---- a formula of a sign and two amplitudes that turns with them: two turns of the second flip the sign
 
 pub record Pairing (φ : ℕ → Point → Point → Point) : Type 0 where
   pub cong : (a : ℕ) {p p' q q' : Point} → Alike p p' → Alike q q' → Alike (φ a p q) (φ a p' q')
@@ -53,7 +53,7 @@ module _ {φ : ℕ → Point → Point → Point} (w : Pairing φ) where
       alike-trans (alike-eq (ap (φ a p) (ap (λ (n : ℕ). turns n q) next ∙ turns-add 2 (2 * g) q)))
       (alike-trans (w .flip a p (turns (2 * g) q)) (alike-trans (flips g (suc a) p q) (alike-eq (ap (λ (n : ℕ). φ n p q) sign))))
 
-  -- the first turned by e, the second by e and g half turns
+  -- the first turned by e, the second by e and 2 g
   pub paired : (e d g a a' : ℕ) {r s : Point} (p q : Point) → Alike r (turns e p) → Alike s (turns d q) → d % 4 ≡ (e + 2 * g) % 4 → (a + g) % 2 ≡ a' % 2
       → Alike (φ a r s) (turns e (φ a' p q))
   paired e d g a a' p q first second turned signs =

@@ -1,4 +1,4 @@
--- An amplitude turned by quarters any number of times, i^e a for every e: only e modulo 4 counts.
+-- An amplitude turned by i any number of times, i^e a for every e: only e modulo 4 counts.
 use mathlib.Core.Path.{_≡_, refl, sym, ap, _∙_}
 use Prim.Native.Nat.{ℕ, zero, suc, _+_, _*_, _/_, _%_, _<_}
 use native.Mathlib.Nat.{div-add-mod', mod-lt, zero-add, zero-lt-suc}
@@ -6,7 +6,7 @@ use native.Mathlib.Omega.{arith}
 use lib.Ieee.{neg}
 use Rattle.floatlaws.specs.Sign.{neg-neg, same-neg}
 use Rattle.floatlaws.specs.Finite.{finite-neg}
-use Rattle.amplitudelaws.specs.Arithmetic.{quarters}
+use Rattle.amplitudelaws.specs.Arithmetic.{timesPower}
 use Rattle.amplitudelaws.specs.Binary.{Point, binary}
 use Rattle.amplitudelaws.specs.Sweeping.{point-same}
 use Rattle.framelaws.specs.Alike.{Alike, Finite}
@@ -28,7 +28,7 @@ turns-add (suc a) b p =
 turns-four : (p : Point) → turns 4 p ≡ p
 turns-four p = point-same (neg-neg (p .re)) (neg-neg (p .im))
 
--- q whole rounds and r quarters
+-- q whole rounds and r turns
 rounds : (q r : ℕ) (p : Point) → turns (q * 4 + r) p ≡ turns r p
 rounds zero r p = let none : zero * 4 + r ≡ r = omega arith in ap (λ (n : ℕ). turns n p) none
 rounds (suc q) r p =
@@ -44,12 +44,12 @@ turns-mod a b p h = turns-rest a p ∙ ap (λ (n : ℕ). turns n p) h ∙ sym (t
 pub turns-turns : (a b c d : ℕ) (p : Point) → (a + b) % 4 ≡ (c + d) % 4 → turns a (turns b p) ≡ turns c (turns d p)
 turns-turns a b c d p h = sym (turns-add a b p) ∙ turns-mod (a + b) (c + d) p h ∙ turns-add c d p
 
--- the formulas' quarter turns are these
-pub quarters-turns : (e : ℕ) (p : Point) → quarters binary (e % 4) p ≡ turns e p
-unfolding quarters
-quarters-turns e p = within (e % 4) (mod-lt e (zero-lt-suc 3)) ∙ sym (turns-rest e p)
+-- the formulas' powers of i are these
+pub times-power-turns : (e : ℕ) (p : Point) → timesPower binary (e % 4) p ≡ turns e p
+unfolding timesPower
+times-power-turns e p = within (e % 4) (mod-lt e (zero-lt-suc 3)) ∙ sym (turns-rest e p)
   where
-    within : (r : ℕ) → r < 4 → quarters binary r p ≡ turns r p
+    within : (r : ℕ) → r < 4 → timesPower binary r p ≡ turns r p
     within zero h = refl
     within (suc zero) h = refl
     within (suc (suc zero)) h = refl

@@ -10,7 +10,7 @@ use Rattle.bitlaws.specs.Digit.{digit}
 use Rattle.bitlaws.specs.Parity.{overlap, parity}
 use Rattle.paulilaws.specs.Pauli.{fits, hermitian, coefficient, ys}
 use Rattle.statelaws.specs.Over.{over}
-use Rattle.amplitudelaws.specs.Arithmetic.{power, times, quarters, direction, negated, scaled}
+use Rattle.amplitudelaws.specs.Arithmetic.{power, times, timesPower, direction, negated, scaled}
 use Rattle.amplitudelaws.specs.Binary.{inUnit}
 use Rattle.amplitudelaws.specs.Rotation.{rotationCoefficient, rotatedAlone, rotatedWith, rotatedBy, rotated}
 use Rattle.amplitudelaws.specs.Correction.{corrected}
@@ -43,7 +43,7 @@ flipText =
     ∷ 49 ∷ 32 ∷ 51 ∷ 102 ∷ 102 ∷ 48 ∷ 48 ∷ 48 ∷ 48 ∷ 48 ∷ 48 ∷ 48 ∷ 48 ∷ 48 ∷ 48 ∷ 48 ∷ 48 ∷ 48 ∷ 32 ∷ 48 ∷ 48 ∷ 48 ∷ 48 ∷ 48 ∷ 48 ∷ 48 ∷ 48 ∷ 48 ∷ 48 ∷ 48 ∷ 48 ∷ 48 ∷ 48 ∷ 48 ∷ 48 ∷ 10 ∷ []
 
 flip-listed : listed flip ≡ flipText
-unfolding listed textOf stateText amplitudeLines fresh point widthLine amplitudeLine refusalLine part bitsOf decimal decimalUpTo running onRun memoryRow surveyOf survey surveyFrom surveyed mixedAmplitudes roomFor room roomRow runOf begun startWidth mapped walk follow ended readAt readField judged judgedBy unless decoded fieldAt isWhole bodyLength number floatAt pauliAt fits hermitian coefficient ys widthAfter stepRow rotationStepRow promotionStepRow projectionStepRow rotationKernelRow measurementRow hermitianRow widthRow unitRow promotedWidthRow pivotRow pivotMask inUnit row first answered left le neg ofBits digit overlap parity ones onesIn ran stepped written over leaves.correction corrected quarters toBits isNan
+unfolding listed textOf stateText amplitudeLines fresh point widthLine amplitudeLine refusalLine part bitsOf decimal decimalUpTo running onRun memoryRow surveyOf survey surveyFrom surveyed mixedAmplitudes roomFor room roomRow runOf begun startWidth mapped walk follow ended readAt readField judged judgedBy unless decoded fieldAt isWhole bodyLength number floatAt pauliAt fits hermitian coefficient ys widthAfter stepRow rotationStepRow promotionStepRow projectionStepRow rotationKernelRow measurementRow hermitianRow widthRow unitRow promotedWidthRow pivotRow pivotMask inUnit row first answered left le neg ofBits digit overlap parity ones onesIn ran stepped written over leaves.correction corrected timesPower toBits isNan
 flip-listed = refl
 
 -- two qubits, a rotation by XX with c and s both 1/sqrt 2, and a correction Z on qubit 0
@@ -72,8 +72,21 @@ bellText =
     ∷ 51 ∷ 32 ∷ 56 ∷ 48 ∷ 48 ∷ 48 ∷ 48 ∷ 48 ∷ 48 ∷ 48 ∷ 48 ∷ 48 ∷ 48 ∷ 48 ∷ 48 ∷ 48 ∷ 48 ∷ 48 ∷ 32 ∷ 51 ∷ 102 ∷ 101 ∷ 54 ∷ 97 ∷ 48 ∷ 57 ∷ 101 ∷ 54 ∷ 54 ∷ 55 ∷ 102 ∷ 51 ∷ 98 ∷ 99 ∷ 100 ∷ 10 ∷ []
 
 bell-listed : listed bell ≡ bellText
-unfolding listed textOf stateText amplitudeLines fresh point widthLine amplitudeLine refusalLine part bitsOf decimal decimalUpTo running onRun memoryRow surveyOf survey surveyFrom surveyed mixedAmplitudes roomFor room roomRow runOf begun startWidth mapped walk follow ended readAt readField judged judgedBy unless decoded fieldAt isWhole bodyLength number floatAt pauliAt fits hermitian coefficient ys widthAfter stepRow rotationStepRow promotionStepRow projectionStepRow rotationKernelRow measurementRow hermitianRow widthRow unitRow promotedWidthRow pivotRow pivotMask inUnit row first answered left le neg ofBits digit overlap parity ones onesIn ran stepped written over leaves.rotation leaves.correction corrected rotated rotatedBy rotatedAlone rotatedWith rotationCoefficient power times quarters direction negated scaled add sub mul toBits isNan
+unfolding listed textOf stateText amplitudeLines fresh point widthLine amplitudeLine refusalLine part bitsOf decimal decimalUpTo running onRun memoryRow surveyOf survey surveyFrom surveyed mixedAmplitudes roomFor room roomRow runOf begun startWidth mapped walk follow ended readAt readField judged judgedBy unless decoded fieldAt isWhole bodyLength number floatAt pauliAt fits hermitian coefficient ys widthAfter stepRow rotationStepRow promotionStepRow projectionStepRow rotationKernelRow measurementRow hermitianRow widthRow unitRow promotedWidthRow pivotRow pivotMask inUnit row first answered left le neg ofBits digit overlap parity ones onesIn ran stepped written over leaves.rotation leaves.correction corrected rotated rotatedBy rotatedAlone rotatedWith rotationCoefficient power times timesPower direction negated scaled add sub mul toBits isNan
 bell-listed = refl
+
+-- a quarter turn of XX in the rotation's place
+abbrev bellTurned : List ℕ
+bellTurned =
+    1 ∷ 1 ∷ 0 ∷ 2
+    ∷ 7 ∷ 17 ∷ 0 ∷ 0 ∷ 3 ∷ (replicate 15 0
+    ++ 5 ∷ 17 ∷ 0 ∷ (replicate 9 0
+    ++ 1 ∷ (replicate 7 0
+    ++ 6 ∷ 0 ∷ 0 ∷ [])))
+
+bell-turned-listed : listed bellTurned ≡ bellText
+unfolding listed textOf stateText amplitudeLines fresh point widthLine amplitudeLine refusalLine part bitsOf decimal decimalUpTo running onRun memoryRow surveyOf survey surveyFrom surveyed mixedAmplitudes roomFor room roomRow runOf begun startWidth mapped walk follow ended readAt readField judged judgedBy unless decoded fieldAt isWhole bodyLength number floatAt pauliAt fits hermitian coefficient ys widthAfter stepRow rotationStepRow promotionStepRow projectionStepRow rotationKernelRow measurementRow hermitianRow widthRow unitRow promotedWidthRow pivotRow pivotMask inUnit row first answered left le neg ofBits digit overlap parity ones onesIn ran stepped written over leaves.rotation leaves.correction corrected rotated rotatedBy rotatedAlone rotatedWith rotationCoefficient power times timesPower direction negated scaled add sub mul toBits isNan
+bell-turned-listed = refl
 
 -- no bytes: refused 14
 empty-listed : listed [] ≡ 114 ∷ 101 ∷ 102 ∷ 117 ∷ 115 ∷ 101 ∷ 100 ∷ 32 ∷ 49 ∷ 52 ∷ 10 ∷ []

@@ -11,7 +11,7 @@ use Rattle.answers.specs.Answer.Answer.{accepted, refused, refusedAt}
 use Rattle.answers.specs.Row.{row, first, answered}
 use Rattle.amplitudelaws.specs.Rows.{widthRow, hermitianRow, unitRow, rotationKernelRow, pivotRow, measurementRow, promotedWidthRow, roomRow}
 use Rattle.amplitudelaws.specs.Step.{Step}
-use Rattle.amplitudelaws.specs.Step.Step.{rotation, promotion, projection, correction}
+use Rattle.amplitudelaws.specs.Step.Step.{rotation, promotion, projection, correction, quarterTurn}
 use Rattle.framelaws.specs.Memory.{Memory, ran}
 use Rattle.framelaws.specs.Rows.{rotationStepRow, projectionStepRow, promotionStepRow, stepRow}
 use Rattle.runlaws.specs.Calls.{endingOf, onRun, byRow, memoryRow, surveyOf, running}
@@ -43,6 +43,7 @@ step-most limit n (rotation P sign c s) = search (first-most, row-most, lit≤) 
 step-most limit n (promotion c q) = search (first-most, row-most, lit≤) depth 12
 step-most limit n (projection M p v invnorm) = search (first-most, row-most, lit≤) depth 12
 step-most limit n (correction P) = search (row-most, lit≤)
+step-most limit n (quarterTurn P) = search (first-most, row-most, lit≤) depth 12
 
 -- ---- a field, and a run
 

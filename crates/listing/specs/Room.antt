@@ -16,7 +16,7 @@ use Rattle.answers.specs.Row.{row}
 use Rattle.amplitudelaws.specs.Rows.{roomRow}
 use Rattle.amplitudelaws.specs.State.{State, roomFor, room}
 use Rattle.amplitudelaws.specs.Step.{Step, widthAfter, lastWidth}
-use Rattle.amplitudelaws.specs.Step.Step.{rotation, promotion, projection, correction}
+use Rattle.amplitudelaws.specs.Step.Step.{rotation, promotion, projection, correction, quarterTurn}
 use Rattle.framelaws.specs.Allowed.{Allowed}
 use Rattle.framelaws.specs.Memory.{Memory, ran}
 use Rattle.framelaws.specs.Passing.{width-kept}
@@ -47,6 +47,7 @@ module _ (limit : ℕ) where
       by true = omega arith
       by false = pow-mono {i = n - 1} {j = limit - 1} (omega (arith, h))
   mixed-most n (correction P) h = omega arith
+  mixed-most n (quarterTurn P) h = omega arith
 
   within-from : (v : Survey) (ts : List (Step Float)) → Within limit v → Allowed limit (v .width) ts → Within limit (surveyFrom v ts)
   unfolding surveyFrom surveyed

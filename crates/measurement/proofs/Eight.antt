@@ -1,5 +1,5 @@
 -- Row 8 stands between the rows of a kernel: up to 7, and from 9 on.
-use mathlib.Core.Path.{_≡_, refl}
+use mathlib.Core.Path.{_≡_}
 use mathlib.Core.Bool.{Bool, true, false, cond, not, _&&_}
 use Prim.Native.Nat.{ℕ, zero, suc, _≤_, _<_}
 use native.Mathlib.Omega.{arith}
@@ -24,11 +24,6 @@ from-nine false true c d h = omega arith
 from-nine false false true d h = omega arith
 from-nine false false false true h = omega arith
 from-nine false false false false h = absurd (omega arith)
-
-pub first-nothing : (r : ℕ) → first r 0 ≡ r
-unfolding first
-first-nothing zero = refl
-first-nothing (suc r) = refl
 
 pub eight-some : (t : Bool) (n : ℕ) → 0 < n → 0 < cond t 8 n
 eight-some true n h = omega arith

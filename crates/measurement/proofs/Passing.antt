@@ -8,7 +8,7 @@ use lib.Ieee.{Float}
 use lib.Ieee.Scale.{finite}
 use borrow.Author.Tests.{not-false}
 use Rattle.answers.specs.Answer.Answer.{refused}
-use Rattle.answers.specs.Row.{row, row-passed, first, first-some, first-none, first-passed, answered, answered-some, refused-row}
+use Rattle.answers.specs.Row.{row, row-passed, first, first-some, first-none, first-passed, answered, answered-some, refused-row, first-nothing}
 use Rattle.paulilaws.specs.Pauli.{Pauli}
 use Rattle.paulilaws.specs.Fitting.{both-left, both-right}
 use Rattle.bitlaws.specs.Digit.{bitOf}
@@ -26,7 +26,7 @@ use Rattle.amplitudelaws.specs.Steps.{projection, scratchAfter, scratchBy, prob
 use Rattle.kernels.specs.Kernel.{MeasurementKernel, measurementKernel, pauliAction}
 use Rattle.measurement.specs.Measured.{kernelRemaining, kernelProjected, kernelScratch, kernelMemory, kernelMass, Projectable}
 use Rattle.measurement.specs.Rows.{withEight, kernelRow}
-use Rattle.measurement.proofs.Eight.{eight-some, first-nothing, measurement-unfit}
+use Rattle.measurement.proofs.Eight.{eight-some, measurement-unfit}
 
 either-other : (t u : Bool) → (t || u) ≡ true → t ≡ false → u ≡ true
 either-other true u e f = absurd (let z : _≡_ {A = ℕ} 0 1 = cc in omega arith)

@@ -37,5 +37,6 @@ pub(crate) fn pass_row(pauli: ActivePauli, step: Step) -> u8
             rows::row(pauli.nqubits <= pivot, 10),
         ),
         Step::Correction(fired) => pair_row(pauli, fired),
+        Step::QuarterTurn(other) => pair_row(pauli, other),
     }
 }

@@ -1,5 +1,6 @@
 // A Pauli taken past a step that suits it. The step's sign or branch flips where the two anticommute; a
-// projection takes the pivot's qubit out of the Pauli, a correction may turn its sign.
+// projection takes the pivot's qubit out of the Pauli, a correction may turn its sign, a quarter turn makes it
+// another.
 use activepauli::ActiveBitAnswer;
 use activepauli::ActivePauli;
 use activepauli::ActivePauliAnswer;
@@ -109,6 +110,18 @@ fn past_projection(
     pauli_or(narrow, whole)
 }
 
+// Past a quarter turn: times its Pauli, which acts second, and i^3, if they anticommute.
+fn past_quarter_turn(pauli: ActivePauli, other: ActivePauli) -> ActivePauli
+    requires { ⌜ Paired (activeOf pauli) (activeOf other) ⌝ }
+    ensures { λ r. ⌜ activeOf r ≡ carrying.turnedPast (activeOf pauli) (activeOf other) ⌝ }
+{
+    if !anticommute(pauli, other) {
+        return pauli;
+    }
+    let whole = times(other, pauli);
+    pauli_or(whole.raised(3), whole)
+}
+
 // With a new highest qubit, the identity there.
 pub(crate) fn widened(pauli: ActivePauli) -> ActivePauli
     requires { ⌜ pauli .nqubits ≤ mostQubits ⌝ }
@@ -141,6 +154,7 @@ pub(crate) fn passed(pauli: ActivePauli, step: Step) -> ActivePauli
             let turned = anticommute(pauli, fired);
             signed(pauli, turned)
         }
+        Step::QuarterTurn(other) => past_quarter_turn(pauli, other),
     }
 }
 
@@ -160,5 +174,6 @@ pub(crate) fn carried_step(pauli: ActivePauli, step: Step) -> Step
             Step::Projection(measured, pivot, new, invnorm)
         }
         Step::Correction(fired) => Step::Correction(fired),
+        Step::QuarterTurn(other) => Step::QuarterTurn(other),
     }
 }

@@ -9,6 +9,7 @@ use Rattle.bitlaws.specs.Parity.{overlap}
 use Rattle.bitlaws.specs.Pivot.{drop-xor, overlap-open}
 use Rattle.paulilaws.specs.Pauli.{Pauli}
 use Rattle.paulilaws.specs.Action.{Ket, ket-same, onKet, turned}
+use Rattle.paulilaws.specs.Fitting.{Fitting, phase-small}
 
 -- times i^e
 unfoldable pub raised : ℕ → Pauli → Pauli
@@ -17,6 +18,10 @@ raised e P = record { n = P .n; k = (P .k + e) % 4; x = P .x; z = P .z }
 -- without qubit q: its bit is dropped from both masks, those above it moving down one
 unfoldable pub dropped : ℕ → Pauli → Pauli
 dropped q P = record { n = P .n - 1; k = P .k; x = dropBit q (P .x); z = dropBit q (P .z) }
+
+pub raised-fitting : (e : ℕ) {P : Pauli} → Fitting P → Fitting (raised e P)
+unfolding raised
+raised-fitting e {P} f = record { phase = phase-small (P .k + e); xs = f .xs; zs = f .zs }
 
 whole-phase : (s k e u : ℕ) → (s + (k + e) % 4 + 2 * u) % 4 ≡ ((s + k + 2 * u) % 4 + e) % 4
 whole-phase s k e u =

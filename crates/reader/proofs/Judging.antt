@@ -14,7 +14,7 @@ use Rattle.amplitudelaws.specs.Binary.{inUnit}
 use Rattle.amplitudelaws.specs.Rows.{widthRow, hermitianRow, unitRow, rotationKernelRow, pivotRow, measurementRow, promotedWidthRow, widestKernel}
 use Rattle.amplitudelaws.specs.Passed.{measurement-passed}
 use Rattle.amplitudelaws.specs.Step.{Step, widthAfter}
-use Rattle.amplitudelaws.specs.Step.Step.{rotation, promotion, projection, correction}
+use Rattle.amplitudelaws.specs.Step.Step.{rotation, promotion, projection, correction, quarterTurn}
 use Rattle.framelaws.specs.Rows.{rotationStepRow, promotionStepRow, projectionStepRow}
 use Rattle.runlaws.specs.Reading.{Cursor, unless, judgedBy}
 use Rattle.runlaws.specs.Reading.Read.{stepRead, refusedRead}
@@ -172,6 +172,13 @@ module _ (M : Pauli) (p v : ℕ) (invnorm : Float) where
   unfolding widthAfter
   projection-step at next isM isNorm e =
       rw (isM, isNorm, projection-bit e) (judged-step (projectionStepRow M p v invnorm) at next (projection M p v invnorm) e)
+
+-- ---- a quarter turn
+
+pub quarter-turn-step : (P : Pauli) (at : Cursor) (next : ℕ) {A : Pauli} → A ≡ P → hermitianRow widestKernel P ≡ 0
+    → stepRead (quarterTurn A) (record { at = next; width = at .width }) ≡ judgedBy (hermitianRow widestKernel P) at next (quarterTurn P)
+unfolding widthAfter
+quarter-turn-step P at next isP e = rw isP (judged-step (hermitianRow widestKernel P) at next (quarterTurn P) e)
 
 -- ---- a correction
 

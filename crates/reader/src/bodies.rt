@@ -12,8 +12,8 @@ ghost use Prim.Native.Nat.{ℕ, _+_, _≤_};
 ghost use lib.ListN.{length};
 ghost use Rattle.activepauli.specs.Active.{activeOf};
 ghost use Rattle.runlaws.specs.Bytes.{floatAt, pauliAt};
-ghost use Rattle.runlaws.specs.Reading.{rotationBytes, promotionBytes, projectionBytes, correctionBytes};
-ghost use Rattle.runlaws.specs.Reading.{rotationIn, promotionIn, projectionIn, correctionIn, judged};
+ghost use Rattle.runlaws.specs.Reading.{rotationBytes, promotionBytes, projectionBytes, correctionBytes, quarterTurnBytes};
+ghost use Rattle.runlaws.specs.Reading.{rotationIn, promotionIn, projectionIn, correctionIn, quarterTurnIn, judged};
 ghost use Rattle.steps.specs.Meaning.{cursorOf, readOf};
 ghost use Rattle.reader.specs.Meaning.{floatAnswerOf};
 
@@ -28,6 +28,9 @@ pub(crate) const PROJECTION_BYTES: usize = 27;
 
 // A correction's: its Pauli's.
 pub(crate) const CORRECTION_BYTES: usize = 17;
+
+// A quarter turn's: its Pauli's.
+pub(crate) const QUARTER_TURN_BYTES: usize = 17;
 
 // The 17 bytes k, x, z as a Pauli of this width.
 fn pauli(body: &[u8], width: usize) -> ActivePauli
@@ -159,4 +162,21 @@ pub(crate) fn correction(body: &[u8], cursor: Cursor, next: usize) -> Read
         width: cursor.width,
     };
     Read::Step(Step::Correction(pauli), behind)
+}
+
+pub(crate) fn quarter_turn(body: &[u8], cursor: Cursor, next: usize) -> Read
+    requires { ⌜ length (now body) ≡ quarterTurnBytes ⌝ }
+    ensures { λ r. let t = quarterTurnIn (cursor .width) (now (body .entry)) in
+        ⌜ ((limit : ℕ) → readOf r ≡ judged limit (cursorOf cursor) next (some t)) ⌝ }
+{
+    let pauli = pauli(body, cursor.width);
+    let row = rows::hermitian_row(pauli, rows::WIDEST_KERNEL);
+    if row != 0 {
+        return Read::Refused(row, cursor.at);
+    }
+    let behind = Cursor {
+        at: next,
+        width: cursor.width,
+    };
+    Read::Step(Step::QuarterTurn(pauli), behind)
 }

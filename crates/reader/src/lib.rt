@@ -60,5 +60,8 @@ fn read_field(tag: u8, held: &[u8], cursor: Cursor, next: usize, limit: usize) -
     if (tag == steps::tag::CORRECTION) & (size == bodies::CORRECTION_BYTES) {
         return bodies::correction(held, cursor, next);
     }
+    if (tag == steps::tag::QUARTER_TURN) & (size == bodies::QUARTER_TURN_BYTES) {
+        return bodies::quarter_turn(held, cursor, next);
+    }
     Read::Refused(14, cursor.at)
 }

@@ -7,6 +7,7 @@ use pauli_calls::form;
 use pauli_calls::show;
 use steps::Cursor;
 use steps::Step;
+use steps::tag;
 ghost use Prim.Native.Nat.{_≤_};
 
 pub(crate) fn call(call: u8, run: &[u8], words: [u64; 12], rest: &[u8]) {
@@ -81,12 +82,19 @@ fn second_pauli(words: [u64; 12]) -> ActivePauli {
 // The step of a tag, of which word 8 is the sign or the branch and word 9 the pivot.
 fn made(tag: u8, pauli: ActivePauli, words: [u64; 12], first: f64, second: f64) -> Step {
     let flag = words[8] == 1;
-    match tag {
-        2 => Step::Rotation(pauli, flag, first, second),
-        3 => Step::Promotion(first, second),
-        4 => Step::Projection(pauli, form::index(words[9]), flag, first),
-        _ => Step::Correction(pauli),
+    if tag == tag::ROTATION {
+        return Step::Rotation(pauli, flag, first, second);
     }
+    if tag == tag::PROMOTION {
+        return Step::Promotion(first, second);
+    }
+    if tag == tag::PROJECTION {
+        return Step::Projection(pauli, form::index(words[9]), flag, first);
+    }
+    if tag == tag::QUARTER_TURN {
+        return Step::QuarterTurn(pauli);
+    }
+    Step::Correction(pauli)
 }
 
 // Running and comparing are lent re and im. A buffer that cannot be read is taken for empty.

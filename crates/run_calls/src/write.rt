@@ -89,6 +89,11 @@ fn correction(pauli: ActivePauli) {
     write::pauli(pauli);
 }
 
+fn quarter_turn(pauli: ActivePauli) {
+    word(b"quarter-turn");
+    write::pauli(pauli);
+}
+
 fn step(step: Step) {
     match step {
         Step::Rotation(pauli, sign, c, s) => rotation(pauli, sign, c, s),
@@ -100,6 +105,7 @@ fn step(step: Step) {
             invnorm,
         ),
         Step::Correction(pauli) => correction(pauli),
+        Step::QuarterTurn(pauli) => quarter_turn(pauli),
     }
 }
 

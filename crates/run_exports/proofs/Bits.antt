@@ -9,7 +9,7 @@ use borrow.Author.Tests.{lt-ltb}
 use Rattle.answers.specs.Row.{row, answered}
 use Rattle.bitlaws.specs.Digit.{bitOf}
 use Rattle.amplitudelaws.specs.Step.{Step}
-use Rattle.amplitudelaws.specs.Step.Step.{rotation, promotion, projection, correction}
+use Rattle.amplitudelaws.specs.Step.Step.{rotation, promotion, projection, correction, quarterTurn}
 use Rattle.framelaws.specs.Carrying.{carriedStep, passed}
 use Rattle.framelaws.specs.PassRow.{Passage, pairRow, passRow, pastCall}
 use Rattle.paulilaws.specs.Pauli.{Pauli}
@@ -30,11 +30,12 @@ module _ (f : FieldSeen) where
 
   pub no-bit : eqb (f .tag) 2 ≡ false → eqb (f .tag) 4 ≡ false → 0 ≡ bitRow (stepBack f)
   unfolding bitRow stepBack
-  no-bit two four = rw (two, four) (go (eqb (f .tag) 3))
+  no-bit two four = rw (two, four) (go (eqb (f .tag) 3) (eqb (f .tag) 7))
     where
-      go : (t : Bool) → 0 ≡ bitRow (cond t (promotion (f .first) (f .second)) (correction (f .pauli)))
-      go true = refl
-      go false = refl
+      go : (b d : Bool) → 0 ≡ bitRow (cond b (promotion (f .first) (f .second)) (cond d (quarterTurn (f .pauli)) (correction (f .pauli))))
+      go true d = refl
+      go false true = refl
+      go false false = refl
 
 -- ---- the flag
 
@@ -54,21 +55,24 @@ by-flag own value (suc (suc v)) =
 
 module _ (Q : Pauli) (f : FieldSeen) where
   -- its step with v for the flag, by how its tag's tests come out
-  abbrev at : Bool → Bool → Bool → ℕ → Step Float
-  at a b c v =
+  abbrev at : Bool → Bool → Bool → Bool → ℕ → Step Float
+  at a b c d v =
       cond a (rotation (f .pauli) v (f .first) (f .second))
-      (cond b (promotion (f .first) (f .second)) (cond c (projection (f .pauli) (f .pivot) v (f .first)) (correction (f .pauli))))
+      (cond b (promotion (f .first) (f .second))
+      (cond c (projection (f .pauli) (f .pivot) v (f .first))
+      (cond d (quarterTurn (f .pauli)) (correction (f .pauli)))))
 
   abbrev behind-it : (ℕ → Step Float) → ℕ → Passage Float
   behind-it t v = record { step = carriedStep Q (t v); pauli = passed Q (t v) }
 
   pub given-same : behind (pastCall Q (stepBack (asBit f))) (bitRow (stepBack f)) ≡ behind (pastCall Q (stepBack f)) (bitRow (stepBack f))
   unfolding stepBack pastCall passRow bitRow
-  given-same = go (eqb (f .tag) 2) (eqb (f .tag) 3) (eqb (f .tag) 4)
+  given-same = go (eqb (f .tag) 2) (eqb (f .tag) 3) (eqb (f .tag) 4) (eqb (f .tag) 7)
     where
-      go : (a b c : Bool) → behind (pastCall Q (at a b c (bitOf (eqb (f .flag) 1)))) (bitRow (at a b c (f .flag)))
-          ≡ behind (pastCall Q (at a b c (f .flag))) (bitRow (at a b c (f .flag)))
-      go true b c = by-flag (pairRow Q (f .pauli)) (behind-it (at true b c)) (f .flag)
-      go false true c = refl
-      go false false true = by-flag (passRow Q (at false false true 0)) (behind-it (at false false true)) (f .flag)
-      go false false false = refl
+      go : (a b c d : Bool) → behind (pastCall Q (at a b c d (bitOf (eqb (f .flag) 1)))) (bitRow (at a b c d (f .flag)))
+          ≡ behind (pastCall Q (at a b c d (f .flag))) (bitRow (at a b c d (f .flag)))
+      go true b c d = by-flag (pairRow Q (f .pauli)) (behind-it (at true b c d)) (f .flag)
+      go false true c d = refl
+      go false false true d = by-flag (passRow Q (at false false true d 0)) (behind-it (at false false true d)) (f .flag)
+      go false false false true = refl
+      go false false false false = refl

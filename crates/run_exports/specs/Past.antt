@@ -1,14 +1,16 @@
 -- A Pauli taken past a step that another language hands over by its tag: what the call answers, and what is seen of it.
-use mathlib.Core.Path.{_≡_, refl}
-use mathlib.Core.Bool.{Bool, not, cond, _&&_}
-use Prim.Native.Nat.{ℕ}
-use lib.Dec.{leb, eqb}
+use mathlib.Core.Path.{_≡_, refl, sym, subst}
+use mathlib.Core.Bool.{Bool, true, false, not, cond, _&&_, _||_}
+use Prim.Native.Nat.{ℕ, zero, suc}
+use native.Mathlib.Omega.{arith}
+use lib.Dec.{T, leb, eqb}
 use lib.Ieee.{Float}
+use borrow.Author.Tests.{le-leb, lt-leb, ne-eqb}
 use Rattle.answers.specs.Answer.{Answer, refuse}
 use Rattle.answers.specs.Answer.Answer.{accepted, refused, refusedAt}
 use Rattle.activepauli.specs.Active.{activeOf}
 use Rattle.amplitudelaws.specs.Step.{Step}
-use Rattle.amplitudelaws.specs.Step.Step.{rotation, promotion, projection, correction}
+use Rattle.amplitudelaws.specs.Step.Step.{rotation, promotion, projection, correction, quarterTurn}
 use Rattle.bitlaws.specs.Digit.{bitOf}
 use Rattle.framelaws.specs.PassRow.{Passage, pastCall}
 use Rattle.paulilaws.specs.Pauli.{Pauli, identity}
@@ -21,7 +23,7 @@ use Rattle.run_exports.specs.Reading.{FieldSeen, stepSeen, bareSeen, see
 
 -- whether a step has this tag
 unfoldable pub isStepTag : ℕ → Bool
-isStepTag tag = leb 2 tag && leb tag 5
+isStepTag tag = (leb 2 tag && leb tag 5) || eqb tag 7
 
 -- 14: a sign or a branch over 1; what else is given beside a step that has none is not looked at
 unfoldable pub bitRow : Step Float → ℕ
@@ -29,6 +31,7 @@ bitRow (rotation P sign c s) = flagRow sign
 bitRow (promotion c q) = 0
 bitRow (projection M p v invnorm) = flagRow v
 bitRow (correction P) = 0
+bitRow (quarterTurn P) = 0
 
 -- 14 too, before all: no step has this tag
 unfoldable pub givenCall : Pauli → FieldSeen → Answer (Passage Float)
@@ -74,9 +77,42 @@ step-tells (rotation P sign c s) = refl
 step-tells (promotion c q) = refl
 step-tells (projection M p v invnorm) = refl
 step-tells (correction P) = refl
+step-tells (quarterTurn P) = refl
 
 pub past-tells : (a : Answer (Passage Float)) → pastBack (pastSeen a) ≡ a
 unfolding pastBack
 past-tells (accepted b) = rw (step-tells (b .step))
 past-tells (refused n) = refl
 past-tells (refusedAt n at) = refl
+
+-- ---- the tags of steps are those by which a step is seen, and no others
+
+pub seen-by-a-tag : (t : Step Float) → isStepTag (stepSeen t .tag) ≡ true
+unfolding isStepTag
+seen-by-a-tag (rotation P sign c s) = refl
+seen-by-a-tag (promotion c q) = refl
+seen-by-a-tag (projection M p v invnorm) = refl
+seen-by-a-tag (correction P) = refl
+seen-by-a-tag (quarterTurn P) = refl
+
+over : (more : ℕ) → isStepTag (suc (suc (suc (suc (suc (suc (suc (suc more)))))))) ≡ false
+unfolding isStepTag
+over more =
+    let tag : ℕ = suc (suc (suc (suc (suc (suc (suc (suc more))))))) in
+    rw (le-leb 2 tag (omega arith), lt-leb tag 5 (omega arith), ne-eqb tag 7 (λ e. omega (arith, e)))
+
+-- the step that is given by a tag is seen by it
+pub seen-by-its-tag : (f : FieldSeen) → isStepTag (f .tag) ≡ true → stepSeen (stepBack f) .tag ≡ f .tag
+unfolding isStepTag stepBack
+seen-by-its-tag f h = go (f .tag) refl (subst T (sym h) tt)
+  where
+    go : (tag : ℕ) → f .tag ≡ tag → T (isStepTag tag) → stepSeen (stepBack f) .tag ≡ f .tag
+    go zero e h = absurd h
+    go (suc zero) e h = absurd h
+    go (suc (suc zero)) e h = rw e
+    go (suc (suc (suc zero))) e h = rw e
+    go (suc (suc (suc (suc zero)))) e h = rw e
+    go (suc (suc (suc (suc (suc zero))))) e h = rw e
+    go (suc (suc (suc (suc (suc (suc zero)))))) e h = absurd h
+    go (suc (suc (suc (suc (suc (suc (suc zero))))))) e h = rw e
+    go (suc (suc (suc (suc (suc (suc (suc (suc more)))))))) e h = absurd (subst T (over more) h)

@@ -13,7 +13,7 @@ ghost use Rattle.verdicts.specs.Flag.{behind};
 ghost use Rattle.run_exports.specs.Reading.{stepBack};
 ghost use Rattle.run_exports.specs.Past.{isStepTag, bitRow, asBit, noneSeen, pastSeen, givenOf, pastOf};
 
-// A step by its tag, 2 to 5. `flag` is a rotation's sign or a projection's branch. What the step does not have is
+// A step by its tag, 2 to 5 or 7. `flag` is a rotation's sign or a projection's branch. What the step does not have is
 // not looked at; a projection's one float is the first.
 #[repr(C)]
 pub struct GivenStep {
@@ -36,7 +36,8 @@ pub struct SeenPast {
 pub(crate) fn is_step(given: GivenStep) -> bool
     ensures { λ r. ⌜ r ≡ isStepTag (given .tag) ⌝ }
 {
-    (tag::ROTATION <= given.tag) & (given.tag <= tag::CORRECTION)
+    let first_four = (tag::ROTATION <= given.tag) & (given.tag <= tag::CORRECTION);
+    first_four | (given.tag == tag::QUARTER_TURN)
 }
 
 // Its step, a flag that is no bit taken for 0. One that has no step's tag is taken for a correction.
@@ -53,6 +54,9 @@ pub(crate) fn step(given: GivenStep) -> Step
     }
     if given.tag == tag::PROJECTION {
         return Step::Projection(pauli, given.pivot, flag, given.first);
+    }
+    if given.tag == tag::QUARTER_TURN {
+        return Step::QuarterTurn(pauli);
     }
     Step::Correction(pauli)
 }

@@ -22,7 +22,7 @@ ghost use Rattle.paulitext.specs.Calls.{textAnswerOf};
 ghost use Rattle.verdicts.specs.Verdict.{Seen};
 ghost use Rattle.run_exports.specs.Nothing.{noSurvey, noEnding};
 ghost use Rattle.run_exports.specs.Ending.{seenEndingOf};
-ghost use Rattle.run_exports.specs.Reading.{stepSeen, bareSeen, readSeen, seenFieldOf, seenReadOf};
+ghost use Rattle.run_exports.specs.Reading.{stepSeen, pauliSeen, bareSeen, readSeen, seenFieldOf, seenReadOf};
 
 // Beside a refusal all numbers of the survey are 0.
 #[repr(C)]
@@ -46,7 +46,7 @@ pub struct SeenServed {
     pub ledger: Ledger,
 }
 
-// A field of a run by its tag: 2 to 5 a step, 6 the end. `flag` is a rotation's sign or a projection's branch. What
+// A field of a run by its tag: 2 to 5 and 7 a step, 6 the end. `flag` is a rotation's sign or a projection's branch. What
 // the field does not have is the identity on no qubits, false, 0 or +0; a projection's one float is the first.
 #[repr(C)]
 pub struct SeenField {
@@ -147,11 +147,10 @@ pub(crate) fn identity_on_none() -> ActivePauli
     }
 }
 
-// A field that has nothing but its tag.
-pub(crate) fn bare(tag: u8) -> SeenField
-    ensures { λ r. ⌜ seenFieldOf r ≡ bareSeen tag ⌝ }
+// A field that has a Pauli and nothing else.
+fn of_pauli(tag: u8, pauli: ActivePauli) -> SeenField
+    ensures { λ r. ⌜ seenFieldOf r ≡ pauliSeen tag (activeOf pauli) ⌝ }
 {
-    let pauli = identity_on_none();
     SeenField {
         tag,
         pauli,
@@ -160,6 +159,13 @@ pub(crate) fn bare(tag: u8) -> SeenField
         first: 0.0,
         second: 0.0,
     }
+}
+
+// A field that has nothing but its tag.
+pub(crate) fn bare(tag: u8) -> SeenField
+    ensures { λ r. ⌜ seenFieldOf r ≡ bareSeen tag ⌝ }
+{
+    of_pauli(tag, identity_on_none())
 }
 
 pub(crate) fn step(step: Step) -> SeenField
@@ -193,14 +199,8 @@ pub(crate) fn step(step: Step) -> SeenField
             first,
             second: 0.0,
         },
-        Step::Correction(pauli) => SeenField {
-            tag: steps::tag::CORRECTION,
-            pauli,
-            flag: false,
-            pivot: 0,
-            first: 0.0,
-            second: 0.0,
-        },
+        Step::Correction(pauli) => of_pauli(steps::tag::CORRECTION, pauli),
+        Step::QuarterTurn(pauli) => of_pauli(steps::tag::QUARTER_TURN, pauli),
     }
 }
 

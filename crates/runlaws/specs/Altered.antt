@@ -1,15 +1,16 @@
--- A carried run differs from the run in sign and branch bytes only.
+-- A carried run differs from the run in sign and branch bytes only, and these are the bytes that the steps' own signs and branches are written to.
 use mathlib.Core.Path.{_≡_, refl, _∙_, subst}
 use mathlib.Core.Bool.{Bool, true, false}
 use mathlib.Core.List.{List, [], _∷_}
 use mathlib.Core.Logic.{_⊎_, inl, inr, ⊎-elim}
-use Prim.Native.Nat.{ℕ, _+_}
+use Prim.Native.Nat.{ℕ, _+_, _<_}
 use lib.Dec.{eqb}
-use lib.ListN.{set}
+use lib.ListN.{length, set, length-set}
+use lib.Seq.{getD-set-same}
 use borrow.Author.Tests.{eqb-true, eqb-false}
 use Rattle.paulilaws.specs.Pauli.{Pauli}
 use Rattle.amplitudelaws.specs.Step.{Step}
-use Rattle.amplitudelaws.specs.Step.Step.{rotation, promotion, projection, correction}
+use Rattle.amplitudelaws.specs.Step.Step.{rotation, promotion, projection, correction, quarterTurn}
 use Rattle.framelaws.specs.Carrying.{carriedStep, passed, carriedSteps}
 use Rattle.runlaws.specs.Bytes.{byteAt}
 use Rattle.runlaws.specs.Flags.{fieldSize, flagAt, flagged, FlagOf, FlagIn}
@@ -26,6 +27,10 @@ set-or-kept s j i v = by (eqb i j) refl
     by true e = inr (eqb-true i j e)
     by false e = inl (byte-kept s j i v (eqb-false i j e))
 
+-- a byte written twice
+written : (s : List ℕ) (j i v w : ℕ) → i ≡ j → i < length s → byteAt (set (set s i v) j w) i ≡ byteAt (set s j w) i
+written s j i v w e l = rw (← e, getD-set-same (set s i v) i w 0 (rw (length-set s i v) l), getD-set-same s i w 0 l)
+
 module _ {R : Type 0} where
   one : (at : ℕ) (t : Step R) (s : List ℕ) (i : ℕ) → (byteAt (flagAt at t s) i ≡ byteAt s i) ⊎ FlagOf at t i
   unfolding flagAt
@@ -33,6 +38,16 @@ module _ {R : Type 0} where
   one at (promotion c q) s i = inl refl
   one at (projection M p v invnorm) s i = set-or-kept s (at + 21) i v
   one at (correction P) s i = inl refl
+  one at (quarterTurn P) s i = inl refl
+
+  -- what stood at the place of a flag is gone
+  pub flag-own : (at : ℕ) (t : Step R) (s : List ℕ) (i v : ℕ) → FlagOf at t i → i < length s → byteAt (flagAt at t (set s i v)) i ≡ byteAt (flagAt at t s) i
+  unfolding flagAt
+  flag-own at (rotation P sign c q) s i v e l = written s (at + 20) i v sign e l
+  flag-own at (promotion c q) s i v e l = absurd e
+  flag-own at (projection M p branch invnorm) s i v e l = written s (at + 21) i v branch e l
+  flag-own at (correction P) s i v e l = absurd e
+  flag-own at (quarterTurn P) s i v e l = absurd e
 
   all : (at : ℕ) (ts : List (Step R)) (s : List ℕ) (i : ℕ) → (byteAt (flagged at ts s) i ≡ byteAt s i) ⊎ FlagIn at ts i
   unfolding flagged
@@ -47,6 +62,7 @@ module _ {R : Type 0} where
   one-carried at Q (promotion c q) i e = e
   one-carried at Q (projection M p v invnorm) i e = e
   one-carried at Q (correction P) i e = e
+  one-carried at Q (quarterTurn P) i e = e
 
   all-carried : (at : ℕ) (Q : Pauli) (ts : List (Step R)) (i : ℕ) → FlagIn at (carriedSteps Q ts) i → FlagIn at ts i
   unfolding carriedSteps

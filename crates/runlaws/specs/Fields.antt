@@ -11,7 +11,7 @@ use lib.ListN.{length, length-take, length-drop}
 use borrow.Author.Tests.{leb-true, lt-leb, le-ltb, ltb-false, eqb-true}
 use Rattle.paulilaws.specs.Fitting.{both-left, both-right}
 use Rattle.amplitudelaws.specs.Step.{Step, widthAfter}
-use Rattle.amplitudelaws.specs.Step.Step.{rotation, promotion, projection, correction}
+use Rattle.amplitudelaws.specs.Step.Step.{rotation, promotion, projection, correction, quarterTurn}
 use Rattle.framelaws.specs.Rows.{stepRow}
 use Rattle.framelaws.specs.Allowed.{Placed}
 use Rattle.framelaws.specs.Passing.{width-kept}
@@ -63,6 +63,7 @@ pub data Decodes (n : ℕ) (f : Field) : Step Float → Type 0 where
   projects : f .tag ≡ 4 → length (f .body) ≡ 27
       → Decodes n f (projection (pauliAt n (f .body)) (byteAt (f .body) 17) (byteAt (f .body) 18) (floatAt (f .body) 19))
   corrects : f .tag ≡ 5 → length (f .body) ≡ 17 → Decodes n f (correction (pauliAt n (f .body)))
+  quarter-turns : f .tag ≡ 7 → length (f .body) ≡ 17 → Decodes n f (quarterTurn (pauliAt n (f .body)))
 
 module _ (n : ℕ) (f : Field) where
   DecodesOr : Option (Step Float) → Type 0
@@ -81,7 +82,8 @@ module _ (n : ℕ) (f : Field) where
       (by-test DecodesOr (isField 2 34 f) (λ h. rotates (has-tag 2 34 h) (has-size 2 34 h))
       (λ _. by-test DecodesOr (isField 3 16 f) (λ h. promotes (has-tag 3 16 h) (has-size 3 16 h))
       (λ _. by-test DecodesOr (isField 4 27 f) (λ h. projects (has-tag 4 27 h) (has-size 4 27 h))
-      (λ _. by-test DecodesOr (isField 5 17 f) (λ h. corrects (has-tag 5 17 h) (has-size 5 17 h)) (λ _. tt)))))
+      (λ _. by-test DecodesOr (isField 5 17 f) (λ h. corrects (has-tag 5 17 h) (has-size 5 17 h))
+      (λ _. by-test DecodesOr (isField 7 17 f) (λ h. quarter-turns (has-tag 7 17 h) (has-size 7 17 h)) (λ _. tt))))))
 
 -- and back: a field that is a step is read as it
 pub read-decodes : (limit : ℕ) (c : Cursor) (f : Field) {t : Step Float} → Decodes (c .width) f t → stepRow limit (c .width) t ≡ 0
@@ -91,6 +93,7 @@ read-decodes limit c f (rotates tag size) h = rw (tag, size, h)
 read-decodes limit c f (promotes tag size) h = rw (tag, size, h)
 read-decodes limit c f (projects tag size) h = rw (tag, size, h)
 read-decodes limit c f (corrects tag size) h = rw (tag, size, h)
+read-decodes limit c f (quarter-turns tag size) h = rw (tag, size, h)
 
 pub decodes-size : {n : ℕ} {f : Field} {t : Step Float} → Decodes n f t → fieldSize t ≡ 3 + length (f .body)
 unfolding fieldSize
@@ -98,6 +101,7 @@ decodes-size (rotates tag size) = rw size
 decodes-size (promotes tag size) = rw size
 decodes-size (projects tag size) = rw size
 decodes-size (corrects tag size) = rw size
+decodes-size (quarter-turns tag size) = rw size
 
 decodes-placed : {n : ℕ} {f : Field} {t : Step Float} → Decodes n f t → Placed n t
 unfolding pauliAt
@@ -105,6 +109,7 @@ decodes-placed (rotates tag size) = refl
 decodes-placed (promotes tag size) = tt
 decodes-placed (projects tag size) = refl
 decodes-placed (corrects tag size) = refl
+decodes-placed (quarter-turns tag size) = refl
 
 -- ---- reads
 
@@ -211,3 +216,4 @@ size-ge (rotation P sign c s) = omega arith
 size-ge (promotion c q) = omega arith
 size-ge (projection M p v invnorm) = omega arith
 size-ge (correction P) = omega arith
+size-ge (quarterTurn P) = omega arith

@@ -9,7 +9,7 @@ use lib.Seq.{set-append-left}
 use Rattle.answers.specs.Answer.Answer.{accepted}
 use Rattle.paulilaws.specs.Pauli.{Pauli}
 use Rattle.amplitudelaws.specs.Step.{Step}
-use Rattle.amplitudelaws.specs.Step.Step.{rotation, promotion, projection, correction}
+use Rattle.amplitudelaws.specs.Step.Step.{rotation, promotion, projection, correction, quarterTurn}
 use Rattle.framelaws.specs.Carrying.{carriedStep, passed, carriedSteps}
 use Rattle.framelaws.specs.Carried.{flagless-carried}
 use Rattle.runlaws.specs.Bytes.{byteAt}
@@ -30,6 +30,7 @@ module _ {R : Type 0} where
   flag-length at (promotion c q) s = refl
   flag-length at (projection M p v invnorm) s = length-set s (at + 21) v
   flag-length at (correction P) s = refl
+  flag-length at (quarterTurn P) s = refl
 
   -- a flag stands in its own field
   pub flag-kept : (at : ℕ) (t : Step R) (s : List ℕ) (i : ℕ) → (at ≤ i → i < at + fieldSize t → ⊥) → byteAt (flagAt at t s) i ≡ byteAt s i
@@ -38,6 +39,7 @@ module _ {R : Type 0} where
   flag-kept at (promotion c q) s i h = refl
   flag-kept at (projection M p v invnorm) s i h = byte-kept s (at + 21) i v (λ e. h (omega arith) (omega arith))
   flag-kept at (correction P) s i h = refl
+  flag-kept at (quarterTurn P) s i h = refl
 
   pub flags-length : (at : ℕ) (ts : List (Step R)) (s : List ℕ) → length (flagged at ts s) ≡ length s
   unfolding flagged
@@ -68,6 +70,7 @@ module _ {R : Type 0} where
   flag-append at (promotion c q) s rest h = refl
   flag-append at (projection M p v invnorm) s rest h = set-append-left s rest (at + 21) v (omega arith)
   flag-append at (correction P) s rest h = refl
+  flag-append at (quarterTurn P) s rest h = refl
 
   flags-append : (at : ℕ) (ts : List (Step R)) (s rest : List ℕ) → Inside at ts (length s) → flagged at ts (s ++ rest) ≡ flagged at ts s ++ rest
   unfolding flagged

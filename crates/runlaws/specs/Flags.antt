@@ -5,7 +5,7 @@ use mathlib.Core.Logic.{_⊎_}
 use Prim.Native.Nat.{ℕ, _+_}
 use lib.ListN.{set}
 use Rattle.amplitudelaws.specs.Step.{Step}
-use Rattle.amplitudelaws.specs.Step.Step.{rotation, promotion, projection, correction}
+use Rattle.amplitudelaws.specs.Step.Step.{rotation, promotion, projection, correction, quarterTurn}
 
 module _ {R : Type 0} where
   -- the bytes of a step's field: three, and its body's
@@ -14,6 +14,7 @@ module _ {R : Type 0} where
   fieldSize (promotion c q) = 19
   fieldSize (projection M p v invnorm) = 30
   fieldSize (correction P) = 20
+  fieldSize (quarterTurn P) = 20
 
   -- the step's sign or branch, written where the field that begins at `at` has it
   unfoldable pub flagAt : ℕ → Step R → List ℕ → List ℕ
@@ -21,6 +22,7 @@ module _ {R : Type 0} where
   flagAt at (promotion c q) bytes = bytes
   flagAt at (projection M p v invnorm) bytes = set bytes (at + 21) v
   flagAt at (correction P) bytes = bytes
+  flagAt at (quarterTurn P) bytes = bytes
 
   -- all of them, the first step's field beginning at `at`
   unfoldable pub flagged : ℕ → List (Step R) → List ℕ → List ℕ
@@ -33,6 +35,7 @@ module _ {R : Type 0} where
   FlagOf at (promotion c q) i = ⊥
   FlagOf at (projection M p v invnorm) i = i ≡ at + 21
   FlagOf at (correction P) i = ⊥
+  FlagOf at (quarterTurn P) i = ⊥
 
   -- or of one of the steps, the first step's field beginning at `at`
   abbrev pub FlagIn : ℕ → List (Step R) → ℕ → Type 0

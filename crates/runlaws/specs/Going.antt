@@ -61,7 +61,7 @@ going-step {limit} {s} {c} {Q} g t d e =
       going = record {
         left = k .left;
         admitted = passed-admitted Q t row;
-        width = passed-width Q t ∙ ap (λ (n : ℕ). widthAfter n t) (g .width) ∙ sym (r .width);
+        width = passed-width Q t row ∙ ap (λ (n : ℕ). widthAfter n t) (g .width) ∙ sym (r .width);
       };
       less = omega (arith, r .next, r .inside, size-ge t);
     }

@@ -7,7 +7,7 @@ use lib.Dec.{ltb, eqb}
 use lib.Ieee.{Float}
 use lib.ListN.{length}
 use Rattle.amplitudelaws.specs.Step.{Step, widthAfter}
-use Rattle.amplitudelaws.specs.Step.Step.{rotation, promotion, projection, correction}
+use Rattle.amplitudelaws.specs.Step.Step.{rotation, promotion, projection, correction, quarterTurn}
 use Rattle.framelaws.specs.Rows.{stepRow}
 use Rattle.runlaws.specs.Bytes.{byteAt, floatAt, pauliAt}
 use Rattle.runlaws.specs.Field.{Field, mostBytes, fieldAt}
@@ -40,6 +40,9 @@ projectionBytes = 27
 abbrev pub correctionBytes : ℕ
 correctionBytes = 17
 
+abbrev pub quarterTurnBytes : ℕ
+quarterTurnBytes = 17
+
 -- and its step, at width n
 abbrev pub rotationIn : ℕ → List ℕ → Step Float
 rotationIn n body = rotation (pauliAt n body) (byteAt body 17) (floatAt body 18) (floatAt body 26)
@@ -53,13 +56,17 @@ projectionIn n body = projection (pauliAt n body) (byteAt body 17) (byteAt body 
 abbrev pub correctionIn : ℕ → List ℕ → Step Float
 correctionIn n body = correction (pauliAt n body)
 
+abbrev pub quarterTurnIn : ℕ → List ℕ → Step Float
+quarterTurnIn n body = quarterTurn (pauliAt n body)
+
 -- the step of a field at width n, none where no step has its tag and length
 unfoldable pub decoded : ℕ → Field → Option (Step Float)
 decoded n f =
     cond (isField 2 rotationBytes f) (some (rotationIn n (f .body)))
     (cond (isField 3 promotionBytes f) (some (promotionIn (f .body)))
     (cond (isField 4 projectionBytes f) (some (projectionIn n (f .body)))
-    (cond (isField 5 correctionBytes f) (some (correctionIn n (f .body))) none)))
+    (cond (isField 5 correctionBytes f) (some (correctionIn n (f .body)))
+    (cond (isField 7 quarterTurnBytes f) (some (quarterTurnIn n (f .body))) none))))
 
 -- refused by the number of a row at the place, or read where that is 0
 unfoldable pub unless : ℕ → ℕ → Read → Read

@@ -24,7 +24,7 @@ use Rattle.runlaws.specs.Calls.{carriedRun}
 use Rattle.runlaws.specs.Fields.{Decodes, field-whole, read-decodes, read-within, step-field, step-read}
 use Rattle.runlaws.specs.Walk.{first-step, walk-step}
 use Rattle.runlaws.specs.WholeRun.{start-read, run-begun, run-allowed}
-use Rattle.runlaws.specs.Fields.Decodes.{rotates, promotes, projects, corrects}
+use Rattle.runlaws.specs.Fields.Decodes.{rotates, promotes, projects, corrects, quarter-turns}
 use Rattle.runlaws.specs.OwnBytes.{byte-kept, float-kept, pauli-kept, withByte, field-same, field-set, read-same, walk-same}
 use Rattle.runlaws.specs.Flagged.{flag-length, flag-kept, flags-length, flags-kept, carried-size}
 
@@ -65,6 +65,7 @@ module _ (limit : ℕ) (s : List ℕ) (c : Cursor) (Q : Pauli) where
       let place : c .at + 21 ≡ c .at + 3 + 18 = omega arith in
       rw (place, field-set s (c .at) 18 v f here (omega arith)) (read-decodes limit c (withByte 18 v f) (rebranched (c .width) f v tag size) e)
   field-carried f here (corrects tag size) e = rw here (read-decodes limit c f (corrects tag size) e)
+  field-carried f here (quarter-turns tag size) e = rw here (read-decodes limit c f (quarter-turns tag size) e)
 
   -- a field with the carried step's flag reads as the carried step
   pub step-carried : (d : Cursor) (t : Step Float) → readAt limit s c ≡ stepRead t d

@@ -7,15 +7,17 @@ use lib.Ieee.{Float}
 use lib.Ieee.Scale.{finite}
 use Rattle.answers.specs.Row.{row, first, left, first-passed, first-none, left-none}
 use Rattle.paulilaws.specs.Pauli.{Pauli}
+use Rattle.amplitudelaws.specs.Binary.{binary}
 use Rattle.amplitudelaws.specs.Calls.{projectedMemory}
-use Rattle.amplitudelaws.specs.Rows.{widestKernel, widthRow, unitRow, rotationKernelRow, measurementRow, roomRow, rotationRow, promotedWidthRow, promotionRow, projectionRow, correctionRow}
+use Rattle.amplitudelaws.specs.Rows.{widestKernel, widthRow, hermitianRow, unitRow, rotationKernelRow, measurementRow, roomRow, rotationRow, promotedWidthRow, promotionRow, projectionRow, correctionRow}
 use Rattle.amplitudelaws.specs.State.{State, roomFor, room}
 use Rattle.amplitudelaws.specs.Steps as leaves
 use Rattle.amplitudelaws.specs.Step.{Step, widthAfter}
-use Rattle.amplitudelaws.specs.Step.Step.{rotation, promotion, projection, correction}
+use Rattle.amplitudelaws.specs.Step.Step.{rotation, promotion, projection, correction, quarterTurn}
 use Rattle.framelaws.specs.Rows.{stepRow, rotationStepRow, promotionStepRow, projectionStepRow}
 use Rattle.framelaws.specs.Survey.{mixedAmplitudes}
 use Rattle.framelaws.specs.Memory.{Memory, stepped}
+use Rattle.framelaws.specs.QuarterTurn.{root-unit}
 use Rattle.runner.specs.Ready.{StepReady}
 
 -- the rows of a call, 13 last
@@ -57,6 +59,13 @@ module _ {n : ℕ} {m : Memory} where
   unfolding correctionRow stepRow
   correction-row P r = with-room (widthRow widestKernel P) (room (P .n) (m .state)) (r .row) (rw (r .placed) (r .before))
 
+  quarter-turn-row : (P : Pauli) → StepReady n (quarterTurn P) m → rotationRow P (binary .h) (binary .h) (m .state) ≡ 0
+  unfolding rotationRow rotationKernelRow stepRow
+  quarter-turn-row P r =
+      let h : Float = binary .h in
+      with-room (first (hermitianRow widestKernel P) (unitRow h h)) (room (P .n) (m .state))
+      (first-none (hermitianRow widestKernel P) _ (r .row) ∙ root-unit) (rw (r .placed) (r .before))
+
 -- What a kernel's call leaves is what the step leaves: t is the step, o what the call left.
 module _ (n : ℕ) (t : Step Float) (m : Memory) (ready : StepReady n t m) where
   ready-as : {u : Step Float} → t ≡ u → StepReady n u m
@@ -95,3 +104,9 @@ module _ (n : ℕ) (t : Step Float) (m : Memory) (ready : StepReady n t m) where
       → record { state = S; scratch = m .scratch } ≡ stepped n t m
   unfolding stepped
   correction-taken P e h = taken-alone _ e (correction-row P (ready-as e)) h refl
+
+  pub quarter-turn-taken : (P : Pauli) {S : State} → t ≡ quarterTurn P
+      → S ≡ left (rotationRow P (binary .h) (binary .h) (m .state)) (leaves.rotation P 0 (binary .h) (binary .h) (m .state)) (m .state)
+      → record { state = S; scratch = m .scratch } ≡ stepped n t m
+  unfolding stepped
+  quarter-turn-taken P e h = taken-alone _ e (quarter-turn-row P (ready-as e)) h refl

@@ -183,5 +183,9 @@ fn take_step(
         Step::Correction(pauli) => {
             correction::correct_contiguous_active(re, im, pauli);
         }
+        Step::QuarterTurn(pauli) => {
+            let h = f64::from_bits(complex::H_BITS);
+            rotation::rotate_contiguous_active(re, im, pauli, false, h, h);
+        }
     }
 }

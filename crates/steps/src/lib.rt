@@ -11,12 +11,14 @@ pub struct Cursor {
 }
 
 // A rotation has its Pauli, sign, c and s; a promotion c and q; a projection its Pauli, pivot, branch
-// and invnorm; a correction its Pauli.
+// and invnorm; a correction its Pauli, and so has a quarter turn, the rotation with sign 0 whose c and s
+// are both 1/sqrt 2.
 pub enum Step {
     Rotation(ActivePauli, bool, f64, f64),
     Promotion(f64, f64),
     Projection(ActivePauli, usize, bool, f64),
     Correction(ActivePauli),
+    QuarterTurn(ActivePauli),
 }
 
 // What a read gives: a step, the end field, or the number of the row that refuses and its place.

@@ -8,3 +8,5 @@ pub const PROJECTION: u8 = 4;
 pub const CORRECTION: u8 = 5;
 
 pub const END: u8 = 6;
+
+pub const QUARTER_TURN: u8 = 7;

@@ -16,8 +16,9 @@ const CASES: u64 = 3_000_000;
 const SEED: u64 = 1;
 
 /// The rows that each call has, 0 where none refuses it.
-const WANTED: [(&str, &[u8]); 42] = [
+const WANTED: [(&str, &[u8]); 44] = [
     ("read", &[0, 3, 6, 7, 8, 9, 10, 11, 12, 14, 15]),
+    ("read a quarter turn", &[0, 3, 6, 7, 14]),
     ("check_run", &[0, 3, 7, 8, 9, 10, 11, 12, 14, 15]),
     ("check_within", &[0, 3, 6, 7, 8, 9, 10, 11, 12, 14, 15]),
     ("run", &[0, 3, 7, 8, 9, 10, 11, 12, 14, 15]),
@@ -27,6 +28,7 @@ const WANTED: [(&str, &[u8]); 42] = [
     ("carry", &[0, 3, 7, 8, 9, 10, 11, 12, 14, 15]),
     ("carry, caller's", &[3, 4, 16]),
     ("past", &[0, 3, 4, 10, 14]),
+    ("past a quarter turn", &[0, 3, 4]),
     ("listing", &[0, 16]),
     ("insert_zero_bit", &[0, 5]),
     ("set_packed_bit", &[0, 14]),

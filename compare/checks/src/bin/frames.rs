@@ -19,7 +19,7 @@ const SEED: u64 = 1;
 const ROUNDS: usize = 4;
 
 /// Counted in finite runs only, and each has to be seen there.
-const WANTED: [&str; 17] = [
+const WANTED: [&str; 19] = [
     "rotation, sign kept",
     "rotation, sign flipped",
     "promotion",
@@ -33,6 +33,8 @@ const WANTED: [&str; 17] = [
     "nondiagonal projection, no X part at the pivot",
     "correction, phase kept",
     "correction, phase raised",
+    "quarter turn, frame kept",
+    "quarter turn, frame turned",
     "empty list",
     "list that ends on no qubits",
     "list that reaches 12 qubits",
@@ -194,6 +196,8 @@ fn kind(frame: Pauli, step: Step, carried: Step) -> &'static str {
         },
         Step::Correction { pauli } if frame.anticommutes(pauli) => "correction, phase raised",
         Step::Correction { .. } => "correction, phase kept",
+        Step::QuarterTurn { pauli } if frame.anticommutes(pauli) => "quarter turn, frame turned",
+        Step::QuarterTurn { .. } => "quarter turn, frame kept",
     }
 }
 

@@ -72,15 +72,17 @@ module _ {R : Type 0} (𝓡 : Ring R) where
       pauli-entry 𝓡 (group.identity n) (identity-fitting n) a b ha hb
       ∙ rw (xor-zero-r b, overlap-zero-r b) (unfold pow in (one-mul (complex 𝓡) (cond (eqb a b) one nought)))
 
+  pub raised-phase : (k e : ℕ) → ipow 𝓡 ((k + e) % 4) ≡ ipow 𝓡 e *ᶜ ipow 𝓡 k
+  raised-phase k e = pow-mod 𝓡 ((k + e) % 4) (e + k) (turns k e) ∙ pow-add (complex 𝓡) (i 𝓡) e k
+    where
+      turns : (k e : ℕ) → (k + e) % 4 % 4 ≡ (e + k) % 4
+      turns k e = omega arith
+
   pub raised-is-book : (e : ℕ) (P : Pauli) (a b : ℕ) → pauli 𝓡 (raised e P) a b ≡ multiple 𝓡 (ipow 𝓡 e) (pauli 𝓡 P) a b
   unfolding pauli raised multiple
   raised-is-book e P a b =
       let l : Amplitude R = factors 𝓡 (P .n) (P .x) (P .z) a b in
-      ap (λ (q : Amplitude R). q *ᶜ l) (pow-mod 𝓡 ((P .k + e) % 4) (e + P .k) (turns (P .k) e) ∙ pow-add (complex 𝓡) (i 𝓡) e (P .k))
-      ∙ complex 𝓡 .mul-assoc (ipow 𝓡 e) (ipow 𝓡 (P .k)) l
-    where
-      turns : (k e : ℕ) → (k + e) % 4 % 4 ≡ (e + k) % 4
-      turns k e = omega arith
+      ap (λ (q : Amplitude R). q *ᶜ l) (raised-phase (P .k) e) ∙ complex 𝓡 .mul-assoc (ipow 𝓡 e) (ipow 𝓡 (P .k)) l
 
   -- ---- a basis state
 
@@ -117,26 +119,33 @@ module _ {R : Type 0} (𝓡 : Ring R) where
 
   -- ---- two Paulis
 
+  -- the phase of A B is that of B A, and a sign where they anticommute
+  pub swapped-phase : (A B : Pauli)
+      → ipow 𝓡 ((A .k + B .k + 2 * overlap (A .z) (B .x)) % 4) ≡ sgn 𝓡 (anti A B) *ᶜ ipow 𝓡 ((B .k + A .k + 2 * overlap (B .z) (A .x)) % 4)
+  unfolding anti
+  swapped-phase A B =
+      let t : ℕ = overlap (A .z) (B .x) in
+      let u : ℕ = overlap (B .z) (A .x) in
+      let s : ℕ = (overlap (A .x) (B .z) + t) % 2 in
+      let k : ℕ = (B .k + A .k + 2 * u) % 4 in
+      pow-mod 𝓡 ((A .k + B .k + 2 * t) % 4) (2 * s + k) (turns (A .k) (B .k) t u s (ap (λ (m : ℕ). (m + t) % 2) (overlap-comm (A .x) (B .z))))
+      ∙ pow-add (complex 𝓡) (i 𝓡) (2 * s) k
+      ∙ ap (λ (q : Amplitude R). q *ᶜ ipow 𝓡 k) (pow-double 𝓡 s)
+    where
+      turns : (k j t u s : ℕ) → s ≡ (u + t) % 2 → (k + j + 2 * t) % 4 % 4 ≡ (2 * s + (j + k + 2 * u) % 4) % 4
+      turns k j t u s e = omega arith
+
   module _ (A B : Pauli) (e : A .n ≡ B .n) (f : Fitting A) (g : Fitting B) where
     -- A B is B A, or - B A where they anticommute.
     swapped : (a b : ℕ) → pauli 𝓡 (product A B) a b ≡ sgn 𝓡 (anti A B) *ᶜ pauli 𝓡 (product B A) a b
-    unfolding pauli multiple product anti
+    unfolding pauli multiple product
     swapped a b =
-        let t : ℕ = overlap (A .z) (B .x) in
-        let u : ℕ = overlap (B .z) (A .x) in
-        let s : ℕ = (overlap (A .x) (B .z) + t) % 2 in
+        let k : ℕ = (A .k + B .k + 2 * overlap (A .z) (B .x)) % 4 in
         let l : Amplitude R = factors 𝓡 (B .n) (bitXor (B .x) (A .x)) (bitXor (B .z) (A .z)) a b in
-        ap₂ (λ (x z : ℕ). ipow 𝓡 ((A .k + B .k + 2 * t) % 4) *ᶜ factors 𝓡 (A .n) x z a b) (xor-comm (A .x) (B .x)) (xor-comm (A .z) (B .z))
-        ∙ ap (λ (n : ℕ). ipow 𝓡 ((A .k + B .k + 2 * t) % 4) *ᶜ factors 𝓡 n (bitXor (B .x) (A .x)) (bitXor (B .z) (A .z)) a b) e
-        ∙ ap (λ (q : Amplitude R). q *ᶜ l)
-        (pow-mod 𝓡 ((A .k + B .k + 2 * t) % 4) (2 * s + (B .k + A .k + 2 * u) % 4)
-        (turns (A .k) (B .k) t u s (ap (λ (m : ℕ). (m + t) % 2) (overlap-comm (A .x) (B .z))))
-        ∙ pow-add (complex 𝓡) (i 𝓡) (2 * s) ((B .k + A .k + 2 * u) % 4)
-        ∙ ap (λ (q : Amplitude R). q *ᶜ ipow 𝓡 ((B .k + A .k + 2 * u) % 4)) (pow-double 𝓡 s))
-        ∙ complex 𝓡 .mul-assoc (sgn 𝓡 s) (ipow 𝓡 ((B .k + A .k + 2 * u) % 4)) l
-      where
-        turns : (k j t u s : ℕ) → s ≡ (u + t) % 2 → (k + j + 2 * t) % 4 % 4 ≡ (2 * s + (j + k + 2 * u) % 4) % 4
-        turns k j t u s e = omega arith
+        ap₂ (λ (x z : ℕ). ipow 𝓡 k *ᶜ factors 𝓡 (A .n) x z a b) (xor-comm (A .x) (B .x)) (xor-comm (A .z) (B .z))
+        ∙ ap (λ (n : ℕ). ipow 𝓡 k *ᶜ factors 𝓡 n (bitXor (B .x) (A .x)) (bitXor (B .z) (A .z)) a b) e
+        ∙ ap (λ (q : Amplitude R). q *ᶜ l) (swapped-phase A B)
+        ∙ complex 𝓡 .mul-assoc (sgn 𝓡 (anti A B)) (ipow 𝓡 ((B .k + A .k + 2 * overlap (B .z) (A .x)) % 4)) l
 
     -- the two products of their matrices
     abbrev AB : Matrix R

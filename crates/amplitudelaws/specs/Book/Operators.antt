@@ -10,7 +10,7 @@ use Rattle.paulilaws.specs.Letter.Letter.{I, X, Y, Z}
 use Rattle.paulilaws.specs.Action.{Ket}
 use Rattle.amplitudelaws.specs.Arithmetic.{Amplitude}
 use Rattle.amplitudelaws.specs.Step.{Step, widthAfter}
-use Rattle.amplitudelaws.specs.Step.Step.{rotation, promotion, projection, correction}
+use Rattle.amplitudelaws.specs.Step.Step.{rotation, promotion, projection, correction, quarterTurn}
 use Rattle.amplitudelaws.specs.Book.Ring.{Ring}
 use Rattle.amplitudelaws.specs.Book.Complex.{complex, real, i, conj, ipow, sgn}
 use Rattle.amplitudelaws.specs.Book.Sum.{sum}
@@ -135,6 +135,7 @@ module _ {R : Type 0} (𝓡 : Ring R) where
     operator n (promotion c q) = appending n c q
     operator n (projection M p v invnorm) = measuring M p v invnorm
     operator n (correction P) = pauli P
+    operator n (quarterTurn P) = turning P 0 h h
 
     -- their product, the first step's operator standing last
     unfoldable pub operators : ℕ → List (Step R) → Matrix R

@@ -6,7 +6,7 @@ use Prim.Native.Nat.{ℕ, zero, suc, _%_, _<_}
 use native.Mathlib.Nat.{mod-lt, zero-lt-suc}
 use native.Mathlib.Omega.{arith}
 use lib.Dec.{eqb}
-use Rattle.amplitudelaws.specs.Arithmetic.{Amplitude, power, times, conjugate, quarters, direction, negated, scale, scaled, mixed}
+use Rattle.amplitudelaws.specs.Arithmetic.{Amplitude, power, times, conjugate, timesPower, direction, negated, scale, scaled, mixed}
 use Rattle.amplitudelaws.specs.Rotation.{rotationCoefficient, rotatedAlone, rotatedWith}
 use Rattle.amplitudelaws.specs.Promotion.{raised}
 use Rattle.amplitudelaws.specs.Projection.{projectionCoefficient}
@@ -107,16 +107,16 @@ module _ {R : Type 0} (𝓡 : Ring R) (h : R) where
   negated-imaginary true w z = ap (𝓡 .neg) z ∙ neg-zero 𝓡
   negated-imaginary false w z = z
 
-  quarter : (r : ℕ) (p : Amplitude R) → r < 4 → quarters (exact 𝓡 h) r p ≡ ipow 𝓡 r *ᶜ p
-  unfolding quarters pow complex i
-  quarter zero p l = simp ring
-  quarter (suc zero) p l = simp ring
-  quarter (suc (suc zero)) p l = simp ring
-  quarter (suc (suc (suc zero))) p l = simp ring
-  quarter (suc (suc (suc (suc r)))) p l = absurd (omega arith)
+  small-power : (r : ℕ) (p : Amplitude R) → r < 4 → timesPower (exact 𝓡 h) r p ≡ ipow 𝓡 r *ᶜ p
+  unfolding timesPower pow complex i
+  small-power zero p l = simp ring
+  small-power (suc zero) p l = simp ring
+  small-power (suc (suc zero)) p l = simp ring
+  small-power (suc (suc (suc zero))) p l = simp ring
+  small-power (suc (suc (suc (suc r)))) p l = absurd (omega arith)
 
-  pub quarters-are : (e : ℕ) (p : Amplitude R) → quarters (exact 𝓡 h) (e % 4) p ≡ ipow 𝓡 e *ᶜ p
-  quarters-are e p = quarter (e % 4) p (mod-lt e (zero-lt-suc 3)) ∙ ap (λ (q : Amplitude R). q *ᶜ p) (pow-mod 𝓡 (e % 4) e (omega arith))
+  pub times-power-is : (e : ℕ) (p : Amplitude R) → timesPower (exact 𝓡 h) (e % 4) p ≡ ipow 𝓡 e *ᶜ p
+  times-power-is e p = small-power (e % 4) p (mod-lt e (zero-lt-suc 3)) ∙ ap (λ (q : Amplitude R). q *ᶜ p) (pow-mod 𝓡 (e % 4) e (omega arith))
 
   pub power-is : (k : ℕ) → k < 4 → power (exact 𝓡 h) k ≡ ipow 𝓡 k
   unfolding power pow complex i

@@ -4,7 +4,7 @@ use mathlib.Core.Path.{_≡_, sym, _∙_}
 use mathlib.Core.List.{List, [], _∷_}
 use mathlib.Core.Bool.{true, cond}
 use mathlib.Core.Logic.{_↔_}
-use Prim.Native.Nat.{ℕ, _-_, _^_, _<_}
+use Prim.Native.Nat.{ℕ, _+_, _-_, _^_, _<_}
 use lib.Dec.{eqb}
 use Rattle.paulilaws.specs.Pauli.{Pauli, product, anti, coefficient, hermitian, sign}
 use Rattle.paulilaws.specs.Pauli as group
@@ -16,7 +16,7 @@ use Rattle.paulilaws.specs.Fitting.{Fitting}
 use Rattle.amplitudelaws.specs.Arithmetic.{Amplitude}
 use Rattle.amplitudelaws.specs.Probability.{mass}
 use Rattle.amplitudelaws.specs.Step.{Step, widthAfter, lastWidth}
-use Rattle.amplitudelaws.specs.Step.Step.{rotation, promotion, projection, correction}
+use Rattle.amplitudelaws.specs.Step.Step.{rotation, promotion, projection, correction, quarterTurn}
 use Rattle.amplitudelaws.specs.Acting.{acts, acted, Measurable, Proper, Propers}
 use Rattle.amplitudelaws.specs.Book.Ring.{Ring}
 use Rattle.amplitudelaws.specs.Book.Complex.{exact, complex, real, ipow, sgn}
@@ -27,6 +27,7 @@ use Rattle.amplitudelaws.specs.Book.Product.{product-is-book}
 use Rattle.amplitudelaws.specs.Book.Projector.{pauli-adjoint}
 use Rattle.amplitudelaws.specs.Book.Group.{identity-is-book, raised-is-book, acts-is-book, square-is-book, exchange, anticommuting, adjoint-hermitian}
 use Rattle.amplitudelaws.specs.Book.Turning.{corrected-is-book, rotated-is-book, turnings-add}
+use Rattle.amplitudelaws.specs.Book.Conjugation.{turning-flipped, turning-conjugated}
 use Rattle.amplitudelaws.specs.Book.Appending.{promoted-appends}
 use Rattle.amplitudelaws.specs.Book.Stands.{standing-eigen}
 use Rattle.amplitudelaws.specs.Book.Eigenspace.{projected-is-book, orthonormal, complete}
@@ -68,7 +69,8 @@ pub record Book {R : Type 0} (𝓡 : Ring R) (h : R) : Type 0 where
       → applied 𝓡 (2 ^ P .n) (pauli 𝓡 P) (turnedKet 𝓡 s) a ≡ turnedKet 𝓡 (basis.onKet P s) a
   -- ---- steps
 
-  -- a step of any kind applies its operator: the rotation c - i s P, the new qubit c|0> + i q|1>, the projector on the branch, the Pauli i^k X^x Z^z
+  -- a step of any kind applies its operator: the rotation c - i s P, the new qubit c|0> + i q|1>, the projector on the branch, the Pauli i^k X^x Z^z, the
+  -- quarter turn h - i h P
   pub step : (n : ℕ) (t : Step R) → Proper n t → (F : ℕ → Amplitude R) (b : ℕ) → b < 2 ^ widthAfter n t
       → acts (exact 𝓡 h) n t F b ≡ applied 𝓡 (2 ^ n) (operator 𝓡 h n t) F b
   -- a list of steps, the empty one too, applies the product of their operators
@@ -89,6 +91,15 @@ pub record Book {R : Type 0} (𝓡 : Ring R) (h : R) : Type 0 where
   pub angles : (P : Pauli) (e : ℕ) (c s c' s' : R) → Fitting P → hermitian P ≡ true → (F : ℕ → Amplitude R) (b : ℕ) → b < 2 ^ P .n
       → applied 𝓡 (2 ^ P .n) (turning 𝓡 P e c s) (applied 𝓡 (2 ^ P .n) (turning 𝓡 P e c' s') F) b
       ≡ applied 𝓡 (2 ^ P .n) (turning 𝓡 P e (𝓡 .add (𝓡 .mul c c') (𝓡 .neg (𝓡 .mul s s'))) (𝓡 .add (𝓡 .mul s c') (𝓡 .mul c s'))) F b
+  -- first Q and then a rotation of P is first the rotation, its sign flipped where they anticommute, and then Q; and where they do, for c = s as in a quarter turn,
+  -- it is first the same rotation and then P Q with i^3
+  pub flips : (P Q : Pauli) → Q .n ≡ P .n → Fitting P → Fitting Q → (e : ℕ) (c s : R) (F : ℕ → Amplitude R) (b : ℕ) → b < 2 ^ P .n
+      → applied 𝓡 (2 ^ P .n) (turning 𝓡 P e c s) (applied 𝓡 (2 ^ P .n) (pauli 𝓡 Q) F) b
+      ≡ applied 𝓡 (2 ^ P .n) (pauli 𝓡 Q) (applied 𝓡 (2 ^ P .n) (turning 𝓡 P (e + anti Q P) c s) F) b
+  pub conjugates : (P Q : Pauli) → Q .n ≡ P .n → Fitting P → Fitting Q → hermitian P ≡ true → anti Q P ≡ 1
+      → (c : R) (F : ℕ → Amplitude R) (b : ℕ) → b < 2 ^ P .n
+      → applied 𝓡 (2 ^ P .n) (turning 𝓡 P 0 c c) (applied 𝓡 (2 ^ P .n) (pauli 𝓡 Q) F) b
+      ≡ applied 𝓡 (2 ^ P .n) (pauli 𝓡 (raised 3 (product P Q))) (applied 𝓡 (2 ^ P .n) (turning 𝓡 P 0 c c) F) b
 
 module _ {R : Type 0} (𝓡 : Ring R) (h : R) (half : 𝓡 .add (𝓡 .mul h h) (𝓡 .mul h h) ≡ 𝓡 .one) where
   step-is-book : (n : ℕ) (t : Step R) → Proper n t → (F : ℕ → Amplitude R) (b : ℕ) → b < 2 ^ widthAfter n t
@@ -98,6 +109,7 @@ module _ {R : Type 0} (𝓡 : Ring R) (h : R) (half : 𝓡 .add (𝓡 .mul h h) 
   step-is-book n (promotion c q) ok F b l = promoted-appends 𝓡 h n c q F b l
   step-is-book n (projection M p v invnorm) (width, ok) F b l = rw (← width) (projected-is-book 𝓡 h half M p v ok invnorm F b (rw width l))
   step-is-book n (correction P) (width, fitting) F b l = rw (← width) (corrected-is-book 𝓡 h P fitting F b (rw width l))
+  step-is-book n (quarterTurn P) (width, fitting, real) F b l = rw (← width) (rotated-is-book 𝓡 h P 0 h h F b fitting real (rw width l))
 
   run-is-book : (n : ℕ) (ts : List (Step R)) → Propers n ts → (F : ℕ → Amplitude R) (b : ℕ) → b < 2 ^ lastWidth n ts
       → acted (exact 𝓡 h) n ts F b ≡ applied 𝓡 (2 ^ n) (operators 𝓡 h n ts) F b
@@ -132,4 +144,6 @@ module _ {R : Type 0} (𝓡 : Ring R) (h : R) (half : 𝓡 .add (𝓡 .mul h h) 
     complete = λ M p v ok a b. complete 𝓡 h half M p v ok a b;
     probability = λ M p v ok F. probability-is-book 𝓡 h half M p ok v F;
     angles = λ P e c s c' s' fitting real F b l. turnings-add 𝓡 P e c s c' s' F b fitting real l;
+    flips = turning-flipped 𝓡;
+    conjugates = turning-conjugated 𝓡;
   }

@@ -17,7 +17,7 @@ use Rattle.amplitudelaws.specs.Book.Ring.{Ring, ring}
 use Rattle.amplitudelaws.specs.Book.Complex.{exact, complex, real, i, ipow, sgn}
 use Rattle.amplitudelaws.specs.Book.Signs.{sign-add, sign-same, sign-square, pow-add, pow-double, i-square}
 use Rattle.amplitudelaws.specs.Book.Reals.{real-mul, real-add}
-use Rattle.amplitudelaws.specs.Book.Parts.{mixed-is, alone-is, with-is, directed-is, negated-is, negated-imaginary, quarters-are}
+use Rattle.amplitudelaws.specs.Book.Parts.{mixed-is, alone-is, with-is, directed-is, negated-is, negated-imaginary, times-power-is}
 use Rattle.amplitudelaws.specs.Book.Parts.{rotationCoefficient-is, rotationCoefficient-imaginary}
 use Rattle.amplitudelaws.specs.Book.Matrix.{identity, multiple, applied, applied-same, applied-plus, applied-multiple, applied-identity}
 use Rattle.amplitudelaws.specs.Book.Operators.{pauli, turning}
@@ -53,7 +53,7 @@ module _ {R : Type 0} (𝓡 : Ring R) where
   infixl 70 _*ᶜ_
   infix 80 -ᶜ_
   -- - i s, or i s where the sign e is 1
-  abbrev slope : ℕ → R → Amplitude R
+  abbrev pub slope : ℕ → R → Amplitude R
   slope e s = -ᶜ (i 𝓡 *ᶜ real 𝓡 s *ᶜ sgn 𝓡 e)
 
   -- ---- the formulas, by the Pauli's action
@@ -63,7 +63,7 @@ module _ {R : Type 0} (𝓡 : Ring R) where
   corrected-acts h P F b =
       let o : ℕ = bitXor b (P .x) in
       let f : ℕ = overlap o (P .z) in
-      quarters-are 𝓡 h (P .k + 2 * f) (F o) ∙ rw (pow-add (complex 𝓡) (i 𝓡) (P .k) (2 * f), pow-double 𝓡 f)
+      times-power-is 𝓡 h (P .k + 2 * f) (F o) ∙ rw (pow-add (complex 𝓡) (i 𝓡) (P .k) (2 * f), pow-double 𝓡 f)
 
   module _ (h : R) (P : Pauli) (e : ℕ) (c s : R) (F : ℕ → Amplitude R) (b : ℕ) (small : P .k < 4) (even : P .k % 2 ≡ overlap (P .x) (P .z)) where
     abbrev o : ℕ
@@ -114,7 +114,7 @@ module _ {R : Type 0} (𝓡 : Ring R) where
       → corrected (exact 𝓡 h) P F b ≡ applied 𝓡 (2 ^ P .n) (pauli 𝓡 P) F b
   corrected-is-book h P fitting F b l = corrected-acts h P F b ∙ sym (pauli-acts 𝓡 P fitting F b l)
 
-  turning-acts : (P : Pauli) (e : ℕ) (c s : R) (F : ℕ → Amplitude R) (b : ℕ) → Fitting P → b < 2 ^ P .n
+  pub turning-acts : (P : Pauli) (e : ℕ) (c s : R) (F : ℕ → Amplitude R) (b : ℕ) → Fitting P → b < 2 ^ P .n
       → applied 𝓡 (2 ^ P .n) (turning 𝓡 P e c s) F b ≡ real 𝓡 c *ᶜ F b +ᶜ slope e s *ᶜ act 𝓡 P F b
   unfolding turning
   turning-acts P e c s F b fitting l =
@@ -131,7 +131,7 @@ module _ {R : Type 0} (𝓡 : Ring R) where
 
   -- ---- the sum of angles
 
-  act-linear : (P : Pauli) (u w : Amplitude R) (F G : ℕ → Amplitude R) (b : ℕ)
+  pub act-linear : (P : Pauli) (u w : Amplitude R) (F G : ℕ → Amplitude R) (b : ℕ)
       → act 𝓡 P (λ a. u *ᶜ F a +ᶜ w *ᶜ G a) b ≡ u *ᶜ act 𝓡 P F b +ᶜ w *ᶜ act 𝓡 P G b
   unfolding act
   act-linear P u w F G b = let o : ℕ = bitXor b (P .x) in spread (complex 𝓡) (ipow 𝓡 (P .k)) (sgn 𝓡 (overlap o (P .z))) u w (F o) (G o)

@@ -43,6 +43,9 @@ enum-told c = search needs
 enum-told-2 : tie.Need-enum-told-2
 enum-told-2 c = search needs
 
+enum-told-3 : tie.Need-enum-told-3
+enum-told-3 c = search needs
+
 same-length : tie.Need-same-length
 same-length c = search needs
 
@@ -65,6 +68,10 @@ returns-4 : tie.Need-returns-4
 unfolding flagAt
 returns-4 c = rw (c .enum-told2 .given .1)
 
+returns-5 : tie.Need-returns-5
+unfolding flagAt
+returns-5 c = rw (c .enum-told3 .given .1)
+
 pub write-flag-spec : {M : Type 1} → statement M
 write-flag-spec =
     tie.close
@@ -79,9 +86,11 @@ write-flag-spec =
     slice-write-out-2
     enum-told
     enum-told-2
+    enum-told-3
     same-length
     returns
     same-length-2
     returns-2
     returns-3
-    returns-4)
+    returns-4
+    returns-5)

@@ -44,6 +44,9 @@ shl-result c = let m = measured c in omega arith
 enum-told-3 : tie.Need-enum-told-3
 enum-told-3 c = search needs
 
+enum-told-4 : tie.Need-enum-told-4
+enum-told-4 c = search needs
+
 returns-2 : tie.Need-returns-2
 unfolding mixedAmplitudes
 returns-2 c = sym (ap (λ (t : Step). mixedAmplitudes (c .before .before .args .width) (stepOf t)) (c .enum-told .given .1))
@@ -65,6 +68,10 @@ returns-5 : tie.Need-returns-5
 unfolding mixedAmplitudes
 returns-5 c = sym (ap (λ (t : Step). mixedAmplitudes (c .before .before .args .width) (stepOf t)) (c .enum-told3 .given .1))
 
+returns-6 : tie.Need-returns-6
+unfolding mixedAmplitudes
+returns-6 c = sym (ap (λ (t : Step). mixedAmplitudes (c .before .before .args .width) (stepOf t)) (c .enum-told4 .given .1))
+
 pub mixed-amplitudes-spec : {M : Type 1} → statement M
 mixed-amplitudes-spec =
     tie.close
@@ -76,7 +83,9 @@ mixed-amplitudes-spec =
     sub-result
     shl-result
     enum-told-3
+    enum-told-4
     returns-2
     returns-3
     returns-4
-    returns-5)
+    returns-5
+    returns-6)

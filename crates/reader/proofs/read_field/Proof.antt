@@ -42,9 +42,23 @@ returns-5 c =
     rw (third .before .before .if1 .left, third .before .if2 .left, third .if3 .left, c .before .before .if4 .left, c .before .if5 .taken)
     (c .correction .ensures _)
 
+quarter-turn-requires : tie.Need-quarter-turn-requires
+quarter-turn-requires c κs =
+    eqb-true _ _ (both-right (eqb (c .before .before .before .before .before .before .before .args .tag) 7) _ (c .if6 .taken))
+
 returns-6 : tie.Need-returns-6
+unfolding readField decoded
+returns-6 c =
+    let fourth = c .before .before .before in
+    let second = fourth .before .before in
+    rw (second .before .if1 .left, second .if2 .left, fourth .before .if3 .left, fourth .if4 .left, c .before .before .if5 .left, c .before .if6 .taken)
+    (c .quarter-turn .ensures _)
+
+returns-7 : tie.Need-returns-7
 unfolding readField judged decoded
-returns-6 c = rw (c .before .before .before .before .if1 .left, c .before .before .before .if2 .left, c .before .before .if3 .left, c .before .if4 .left, c .if5 .left)
+returns-7 c =
+    let third = c .before .before .before in
+    rw (third .before .before .if1 .left, third .before .if2 .left, third .if3 .left, c .before .before .if4 .left, c .before .if5 .left, c .if6 .left)
 
 pub read-field-spec : {M : Type 1} → statement M
 read-field-spec =
@@ -59,4 +73,6 @@ read-field-spec =
     returns-4
     correction-requires
     returns-5
-    returns-6)
+    quarter-turn-requires
+    returns-6
+    returns-7)

@@ -1,7 +1,8 @@
 use mathlib.Core.Path.{ap}
+use lib.Ieee.{nanBits}
 use Rattle.amplitudelaws.specs.Lent.{lentMemory}
 use Rattle.steps.specs.Meaning.{stepOf}
-use Rattle.runner.proofs.Taken.{rotation-taken, promotion-taken, projection-taken, correction-taken}
+use Rattle.runner.proofs.Taken.{rotation-taken, promotion-taken, projection-taken, correction-taken, quarter-turn-taken}
 use borrow.Author.Needs.{needs}
 use Rattle.runner.proofs.take_step.Statement.{statement}
 use Rattle.runner.proofs.take_step.Tie as tie
@@ -29,6 +30,16 @@ enum-known-step-4 c = search needs
 
 correct-contiguous-active-requires : tie.Need-correct-contiguous-active-requires
 correct-contiguous-active-requires c κs = search needs
+
+enum-known-step-5 : tie.Need-enum-known-step-5
+enum-known-step-5 c = search needs
+
+float-from-bits-h : tie.Need-float-from-bits-h
+unfolding nanBits
+float-from-bits-h c = tt
+
+rotate-contiguous-active-requires-2 : tie.Need-rotate-contiguous-active-requires-2
+rotate-contiguous-active-requires-2 c κs = search needs
 
 same-length : tie.Need-same-length
 same-length c = search needs
@@ -100,6 +111,22 @@ returns-4 c =
     correction-taken (a .width) (stepOf (a .step)) m (start .pre) _
     (ap stepOf (matched .step4 .given .1)) (called .correct-contiguous-active .ensures .1)
 
+same-length-11 : tie.Need-same-length-11
+same-length-11 c = search needs
+
+same-length-12 : tie.Need-same-length-12
+same-length-12 c = search needs
+
+returns-5 : tie.Need-returns-5
+returns-5 c =
+    let called = c .before .before .before .before in
+    let matched = called .before .before .before .before in
+    let start = matched .before .before .before .before .before .before in
+    let a = start .args in
+    let m = lentMemory (a .re) (a .im) (a .scratch-re) (a .scratch-im) in
+    quarter-turn-taken (a .width) (stepOf (a .step)) m (start .pre) _
+    (ap stepOf (matched .step5 .given .1)) (called .rotate-contiguous-active2 .ensures .1)
+
 pub take-step-spec : {M : Type 1} → statement M
 take-step-spec =
     tie.close
@@ -112,6 +139,9 @@ take-step-spec =
     project-contiguous-requires
     enum-known-step-4
     correct-contiguous-active-requires
+    enum-known-step-5
+    float-from-bits-h
+    rotate-contiguous-active-requires-2
     same-length
     same-length-2
     returns
@@ -125,4 +155,7 @@ take-step-spec =
     returns-3
     same-length-9
     same-length-10
-    returns-4)
+    returns-4
+    same-length-11
+    same-length-12
+    returns-5)

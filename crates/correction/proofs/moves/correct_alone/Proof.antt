@@ -5,7 +5,7 @@ use native.Mathlib.Omega.{arith}
 use lib.Bits.{bitXor, xor-zero-r}
 use Rattle.bitlaws.specs.Digit.{one-shifted}
 use Rattle.bitlaws.specs.Parity.{overlap}
-use Rattle.amplitudelaws.specs.Arithmetic.{quarters}
+use Rattle.amplitudelaws.specs.Arithmetic.{timesPower}
 use Rattle.amplitudelaws.specs.Binary.{binary, Point}
 use Rattle.amplitudelaws.specs.Correction.{corrected}
 use Rattle.amplitudelaws.specs.State.{stateOf, point}
@@ -61,8 +61,8 @@ loop-again c =
       inv .0,
       omega arith,
       one-more (inv .2) _ _ (called .turn-at .ensures) (omega arith)
-          (ap₂ (quarters binary) (ap (λ (e : ℕ). e % 4) (called .before .exponent .ensures) ∙ mod-mod _ 4) (one-ahead (inv .2) b (le-refl b))
-          ∙ ap (λ (from : ℕ). quarters binary ((P .phase + 2 * overlap from (P .z)) % 4) (F from)) (sym same)),
+          (ap₂ (timesPower binary) (ap (λ (e : ℕ). e % 4) (called .before .exponent .ensures) ∙ mod-mod _ 4) (one-ahead (inv .2) b (le-refl b))
+          ∙ ap (λ (from : ℕ). timesPower binary ((P .phase + 2 * overlap from (P .z)) % 4) (F from)) (sym same)),
     )
 
 same-length : tie.Need-same-length Inv-loop μ-loop

@@ -6,7 +6,7 @@ use lib.Bits.{bitXor}
 use Rattle.bitlaws.specs.Digit.{one-shifted}
 use Rattle.bitlaws.specs.Pairs.{pairOf}
 use Rattle.bitlaws.specs.Parity.{overlap}
-use Rattle.amplitudelaws.specs.Arithmetic.{quarters}
+use Rattle.amplitudelaws.specs.Arithmetic.{timesPower}
 use Rattle.amplitudelaws.specs.Binary.{binary, Point}
 use Rattle.amplitudelaws.specs.Correction.{corrected}
 use Rattle.amplitudelaws.specs.Pairing.{turn-inside, turn-more}
@@ -76,10 +76,10 @@ loop-again c =
       inv .0,
       omega arith,
       turn-more (start .pre .1) (start .pre .0) (omega arith) (opened .opened-at .ensures)
-          (λ (o : ℕ) (p q : Point). quarters binary ((P .phase + 2 * overlap o (P .z)) % 4) q) (inv .2) _ _ _
+          (λ (o : ℕ) (p q : Point). timesPower binary ((P .phase + 2 * overlap o (P .z)) % 4) q) (inv .2) _ _ _
           (called .exchange .ensures)
-          (ap (λ (e : ℕ). quarters binary e (point S right)) (ap (λ (e : ℕ). e % 4) (to-right .before .exponent .ensures) ∙ mod-mod _ 4))
-          (ap (λ (e : ℕ). quarters binary e (point S left)) (ap (λ (e : ℕ). e % 4) (to-right .exponent2 .ensures) ∙ mod-mod _ 4)),
+          (ap (λ (e : ℕ). timesPower binary e (point S right)) (ap (λ (e : ℕ). e % 4) (to-right .before .exponent .ensures) ∙ mod-mod _ 4))
+          (ap (λ (e : ℕ). timesPower binary e (point S left)) (ap (λ (e : ℕ). e % 4) (to-right .exponent2 .ensures) ∙ mod-mod _ 4)),
     )
 
 same-length : tie.Need-same-length Inv-loop μ-loop

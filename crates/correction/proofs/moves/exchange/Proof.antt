@@ -29,11 +29,11 @@ mul-t14-2 c = search needs
 slice-read-t13-2 : tie.Need-slice-read-t13-2
 slice-read-t13-2 c = search needs
 
-quarters-requires : tie.Need-quarters-requires
-quarters-requires c κs = search needs
+times-power-requires : tie.Need-times-power-requires
+times-power-requires c κs = search needs
 
-quarters-requires-2 : tie.Need-quarters-requires-2
-quarters-requires-2 c κs = search needs
+times-power-requires-2 : tie.Need-times-power-requires-2
+times-power-requires-2 c κs = search needs
 
 mul-re : tie.Need-mul-re
 mul-re c = search needs
@@ -69,7 +69,7 @@ returns : tie.Need-returns
 unfolding point setPoint
 returns c =
     let a = c .before .before .before .before .before .before .before .before .args in
-    ap₂ (λ (u v : Point). setPoint (a .right) v (setPoint (a .left) u (stateOf (a .re .now) (a .im .now)))) (c .before .quarters .ensures) (c .quarters2 .ensures)
+    ap₂ (λ (u v : Point). setPoint (a .right) v (setPoint (a .left) u (stateOf (a .re .now) (a .im .now)))) (c .before .times-power .ensures) (c .times-power2 .ensures)
 
 pub exchange-spec : {M : Type 1} → statement M
 exchange-spec =
@@ -83,8 +83,8 @@ exchange-spec =
     slice-read-t16-2
     mul-t14-2
     slice-read-t13-2
-    quarters-requires
-    quarters-requires-2
+    times-power-requires
+    times-power-requires-2
     mul-re
     slice-write-re
     mul-im

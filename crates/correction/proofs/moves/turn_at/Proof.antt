@@ -17,8 +17,8 @@ mul-t9 c = search needs
 slice-read-t11 : tie.Need-slice-read-t11
 slice-read-t11 c = search needs
 
-quarters-requires : tie.Need-quarters-requires
-quarters-requires c κs = search needs
+times-power-requires : tie.Need-times-power-requires
+times-power-requires c κs = search needs
 
 mul-re : tie.Need-mul-re
 mul-re c = search needs
@@ -42,7 +42,7 @@ returns : tie.Need-returns
 unfolding point setPoint
 returns c =
     let a = c .before .before .before .before .before .args in
-    ap (λ (u : Point). setPoint (a .b) u (stateOf (a .re .now) (a .im .now))) (c .quarters .ensures)
+    ap (λ (u : Point). setPoint (a .b) u (stateOf (a .re .now) (a .im .now))) (c .times-power .ensures)
 
 pub turn-at-spec : {M : Type 1} → statement M
 turn-at-spec =
@@ -52,7 +52,7 @@ turn-at-spec =
     slice-read-t8
     mul-t9
     slice-read-t11
-    quarters-requires
+    times-power-requires
     mul-re
     slice-write-re
     mul-im

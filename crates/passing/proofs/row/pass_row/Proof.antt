@@ -33,6 +33,12 @@ enum-known-step-3 c = search needs
 pair-row-requires-3 : tie.Need-pair-row-requires-3
 pair-row-requires-3 c κs = search needs
 
+enum-known-step-4 : tie.Need-enum-known-step-4
+enum-known-step-4 c = search needs
+
+pair-row-requires-4 : tie.Need-pair-row-requires-4
+pair-row-requires-4 c κs = search needs
+
 returns : tie.Need-returns
 unfolding passRow
 returns c = rw (c .before .before .step .given .1) (c .pair-row .ensures)
@@ -52,6 +58,10 @@ returns-4 : tie.Need-returns-4
 unfolding passRow
 returns-4 c = rw (c .before .before .step3 .given .1) (c .pair-row3 .ensures)
 
+returns-5 : tie.Need-returns-5
+unfolding passRow
+returns-5 c = rw (c .before .before .step4 .given .1) (c .pair-row4 .ensures)
+
 pub pass-row-spec : {M : Type 1} → statement M
 pass-row-spec =
     tie.close
@@ -66,7 +76,10 @@ pass-row-spec =
     first-requires
     enum-known-step-3
     pair-row-requires-3
+    enum-known-step-4
+    pair-row-requires-4
     returns
     returns-2
     returns-3
-    returns-4)
+    returns-4
+    returns-5)

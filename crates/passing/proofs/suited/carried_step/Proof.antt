@@ -29,6 +29,9 @@ flipped-requires-2 c κs =
 enum-known-step-4 : tie.Need-enum-known-step-4
 enum-known-step-4 c = search needs
 
+enum-known-step-5 : tie.Need-enum-known-step-5
+enum-known-step-5 c = search needs
+
 returns : tie.Need-returns
 unfolding carriedStep
 returns c = rw (c .before .before .step .given .1, c .flipped .ensures)
@@ -45,6 +48,10 @@ returns-4 : tie.Need-returns-4
 unfolding carriedStep
 returns-4 c = rw (c .before .step4 .given .1)
 
+returns-5 : tie.Need-returns-5
+unfolding carriedStep
+returns-5 c = rw (c .before .step5 .given .1)
+
 pub carried-step-spec : {M : Type 1} → statement M
 carried-step-spec =
     tie.close
@@ -55,7 +62,9 @@ carried-step-spec =
     enum-known-step-3
     flipped-requires-2
     enum-known-step-4
+    enum-known-step-5
     returns
     returns-2
     returns-3
-    returns-4)
+    returns-4
+    returns-5)

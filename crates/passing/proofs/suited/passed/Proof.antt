@@ -41,6 +41,14 @@ signed-requires c κs =
     let start = c .before .before .before .before in
     subst (Suited (activeOf (start .args .pauli))) (ap stepOf (c .before .before .step2 .given .1)) (start .pre) .first
 
+enum-known-step-3 : tie.Need-enum-known-step-3
+enum-known-step-3 c = search needs
+
+past-quarter-turn-requires : tie.Need-past-quarter-turn-requires
+past-quarter-turn-requires c κs =
+    let start = c .before .before .before in
+    subst (Suited (activeOf (start .args .pauli))) (ap stepOf (c .before .step3 .given .1)) (start .pre)
+
 returns : tie.Need-returns
 unfolding passed
 returns c = rw (c .enum-told .given .1)
@@ -60,6 +68,10 @@ returns-4 c =
     rw (c .before .before .before .step2 .given .1)
     (c .signed .ensures ∙ ap (λ (n : ℕ). raised (2 * n) (activeOf (start .args .pauli))) (c .before .anticommute .ensures))
 
+returns-5 : tie.Need-returns-5
+unfolding passed
+returns-5 c = rw (c .before .before .step3 .given .1) (c .past-quarter-turn .ensures)
+
 pub passed-spec : {M : Type 1} → statement M
 passed-spec =
     tie.close
@@ -72,7 +84,10 @@ passed-spec =
     enum-known-step-2
     anticommute-requires
     signed-requires
+    enum-known-step-3
+    past-quarter-turn-requires
     returns
     returns-2
     returns-3
-    returns-4)
+    returns-4
+    returns-5)

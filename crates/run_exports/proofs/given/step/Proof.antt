@@ -20,8 +20,14 @@ returns-3 c =
 returns-4 : tie.Need-returns-4
 unfolding stepBack
 returns-4 c =
-    let second = c .before .before in
-    rw (ne-eqb _ _ (second .before .before .if1 .left), ne-eqb _ _ (second .if2 .left), ne-eqb _ _ (c .if3 .left))
+    let third = c .before .before in
+    rw (ne-eqb _ _ (third .before .before .before .before .if1 .left), ne-eqb _ _ (third .before .before .if2 .left), ne-eqb _ _ (third .if3 .left), eq-eqb _ _ (c .if4 .taken))
+
+returns-5 : tie.Need-returns-5
+unfolding stepBack
+returns-5 c =
+    let third = c .before .before in
+    rw (ne-eqb _ _ (third .before .before .before .before .if1 .left), ne-eqb _ _ (third .before .before .if2 .left), ne-eqb _ _ (third .if3 .left), ne-eqb _ _ (c .if4 .left))
 
 pub step-spec : {M : Type 1} → statement M
-step-spec = tie.close (tie.spec returns returns-2 returns-3 returns-4)
+step-spec = tie.close (tie.spec returns returns-2 returns-3 returns-4 returns-5)

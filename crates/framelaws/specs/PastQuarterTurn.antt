@@ -1,6 +1,6 @@
 -- A frame goes past a quarter turn of P: where Q and P anticommute, Q becomes P times Q and i^3, else it stays. As in a projection with an X
--- part the two halves of an amplitude change places, and the proof asks that both are finite, whatever P is. The formulas need it only where P
--- has an X and a Z part: else no zero is multiplied with what stands on one side only.
+-- part the two halves of an amplitude change places, and the proof asks that both are finite, whatever P is. Where P has no X or no Z part the
+-- formulas multiply no zero with the partner's amplitude, and no case was seen that needs it; that is not proved.
 use mathlib.Core.Path.{_≡_, refl, sym, ap, _∙_}
 use mathlib.Core.Bool.{Bool, true, false}
 use Prim.Native.Nat.{ℕ, _+_, _*_, _%_, _^_, _<_}

@@ -11,24 +11,30 @@ use Rattle.answers.specs.Row.{row, first, first-some, first-none, first-passed,
 use Rattle.bitlaws.specs.Digit.{bitOf}
 use Rattle.paulilaws.specs.Pauli.{Pauli}
 use Rattle.amplitudelaws.specs.Binary.{inUnit}
-use Rattle.amplitudelaws.specs.Rows.{widthRow, hermitianRow, unitRow, rotationKernelRow, pivotRow, measurementRow, promotedWidthRow, widestKernel}
+use Rattle.amplitudelaws.specs.Rows.{hermitianRow, unitRow, rotationKernelRow, pivotRow, measurementRow, promotedWidthRow, widestKernel}
 use Rattle.amplitudelaws.specs.Passed.{measurement-passed}
 use Rattle.amplitudelaws.specs.Step.{Step, widthAfter}
-use Rattle.amplitudelaws.specs.Step.Step.{rotation, promotion, projection, correction, quarterTurn}
+use Rattle.amplitudelaws.specs.Step.Step.{rotation, promotion, projection}
 use Rattle.framelaws.specs.Rows.{rotationStepRow, promotionStepRow, projectionStepRow}
-use Rattle.runlaws.specs.Reading.{Cursor, unless, judgedBy}
+use Rattle.runlaws.specs.Reading.{Cursor, Read, unless, judgedBy}
 use Rattle.runlaws.specs.Reading.Read.{stepRead, refusedRead}
+
+-- a row that refuses, and one that does not
+pub unless-some : (n at : ℕ) (r : Read) → 0 < n → refusedRead n at ≡ unless n at r
+unfolding unless
+unless-some zero at r h = absurd (omega arith)
+unless-some (suc n) at r h = refl
+
+pub unless-none : (n at : ℕ) (r : Read) → n ≡ 0 → r ≡ unless n at r
+unfolding unless
+unless-none n at r e = rw e
 
 -- ---- a step, R being the number of its row
 
 module _ (R : ℕ) (at : Cursor) (next : ℕ) (t : Step Float) where
   pub judged-refused : (r : ℕ) → r ≡ R → 0 < r → refusedRead r (at .at) ≡ judgedBy R at next t
   unfolding judgedBy
-  judged-refused r e h = go r h ∙ ap (λ (n : ℕ). judgedBy n at next t) e
-    where
-      go : (n : ℕ) → 0 < n → refusedRead n (at .at) ≡ judgedBy n at next t
-      go zero h = absurd (omega arith)
-      go (suc n) h = unfold unless in refl
+  judged-refused r e h = unless-some r (at .at) _ h ∙ ap (λ (n : ℕ). judgedBy n at next t) e
 
   pub judged-step : R ≡ 0 → stepRead t (record { at = next; width = widthAfter (at .width) t }) ≡ judgedBy R at next t
   unfolding judgedBy unless
@@ -173,16 +179,9 @@ module _ (M : Pauli) (p v : ℕ) (invnorm : Float) where
   projection-step at next isM isNorm e =
       rw (isM, isNorm, projection-bit e) (judged-step (projectionStepRow M p v invnorm) at next (projection M p v invnorm) e)
 
--- ---- a quarter turn
+-- ---- a correction and a quarter turn, which keep the width
 
-pub quarter-turn-step : (P : Pauli) (at : Cursor) (next : ℕ) {A : Pauli} → A ≡ P → hermitianRow widestKernel P ≡ 0
-    → stepRead (quarterTurn A) (record { at = next; width = at .width }) ≡ judgedBy (hermitianRow widestKernel P) at next (quarterTurn P)
-unfolding widthAfter
-quarter-turn-step P at next isP e = rw isP (judged-step (hermitianRow widestKernel P) at next (quarterTurn P) e)
-
--- ---- a correction
-
-pub correction-step : (P : Pauli) (at : Cursor) (next : ℕ) {A : Pauli} → A ≡ P → widthRow widestKernel P ≡ 0
-    → stepRead (correction A) (record { at = next; width = at .width }) ≡ judgedBy (widthRow widestKernel P) at next (correction P)
-unfolding widthAfter
-correction-step P at next isP e = rw isP (judged-step (widthRow widestKernel P) at next (correction P) e)
+pub kept-step : (at : Cursor) (next : ℕ) {r R : ℕ} {t u : Step Float} → r ≡ R → t ≡ u → widthAfter (at .width) u ≡ at .width
+    → unless r (at .at) (stepRead t (record { at = next; width = at .width })) ≡ judgedBy R at next u
+unfolding judgedBy
+kept-step at next row step width = rw (row, step, width)

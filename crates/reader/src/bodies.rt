@@ -13,8 +13,10 @@ ghost use lib.ListN.{length};
 ghost use Rattle.activepauli.specs.Active.{activeOf};
 ghost use Rattle.runlaws.specs.Bytes.{floatAt, pauliAt};
 ghost use Rattle.runlaws.specs.Reading.{rotationBytes, promotionBytes, projectionBytes, correctionBytes, quarterTurnBytes};
-ghost use Rattle.runlaws.specs.Reading.{rotationIn, promotionIn, projectionIn, correctionIn, quarterTurnIn, judged};
-ghost use Rattle.steps.specs.Meaning.{cursorOf, readOf};
+ghost use Rattle.runlaws.specs.Reading.{rotationIn, promotionIn, projectionIn, correctionIn, quarterTurnIn, unless, judged};
+ghost use Rattle.runlaws.specs.Reading as run;
+ghost use Rattle.runlaws.specs.Reading.Read.{stepRead};
+ghost use Rattle.steps.specs.Meaning.{cursorOf, stepOf, readOf};
 ghost use Rattle.reader.specs.Meaning.{floatAnswerOf};
 
 // The bytes of a rotation's body: its Pauli's 17, the sign, c and s.
@@ -147,13 +149,11 @@ pub(crate) fn projection(body: &[u8], cursor: Cursor, next: usize) -> Read
     Read::Step(Step::Projection(pauli, pivot, branch == 1, invnorm), behind)
 }
 
-pub(crate) fn correction(body: &[u8], cursor: Cursor, next: usize) -> Read
-    requires { ⌜ length (now body) ≡ correctionBytes ⌝ }
-    ensures { λ r. let t = correctionIn (cursor .width) (now (body .entry)) in
-        ⌜ ((limit : ℕ) → readOf r ≡ judged limit (cursorOf cursor) next (some t)) ⌝ }
+// A step that keeps the width, if the number of its row is 0.
+fn kept(row: u8, step: Step, cursor: Cursor, next: usize) -> Read
+    ensures { λ r. let behind : run.Cursor = record { at = next; width = cursor .width } in
+        ⌜ readOf r ≡ unless row (cursor .at) (stepRead (stepOf step) behind) ⌝ }
 {
-    let pauli = pauli(body, cursor.width);
-    let row = rows::width_row(pauli, rows::WIDEST_KERNEL);
     if row != 0 {
         return Read::Refused(row, cursor.at);
     }
@@ -161,7 +161,17 @@ pub(crate) fn correction(body: &[u8], cursor: Cursor, next: usize) -> Read
         at: next,
         width: cursor.width,
     };
-    Read::Step(Step::Correction(pauli), behind)
+    Read::Step(step, behind)
+}
+
+pub(crate) fn correction(body: &[u8], cursor: Cursor, next: usize) -> Read
+    requires { ⌜ length (now body) ≡ correctionBytes ⌝ }
+    ensures { λ r. let t = correctionIn (cursor .width) (now (body .entry)) in
+        ⌜ ((limit : ℕ) → readOf r ≡ judged limit (cursorOf cursor) next (some t)) ⌝ }
+{
+    let pauli = pauli(body, cursor.width);
+    let row = rows::width_row(pauli, rows::WIDEST_KERNEL);
+    kept(row, Step::Correction(pauli), cursor, next)
 }
 
 pub(crate) fn quarter_turn(body: &[u8], cursor: Cursor, next: usize) -> Read
@@ -171,12 +181,5 @@ pub(crate) fn quarter_turn(body: &[u8], cursor: Cursor, next: usize) -> Read
 {
     let pauli = pauli(body, cursor.width);
     let row = rows::hermitian_row(pauli, rows::WIDEST_KERNEL);
-    if row != 0 {
-        return Read::Refused(row, cursor.at);
-    }
-    let behind = Cursor {
-        at: next,
-        width: cursor.width,
-    };
-    Read::Step(Step::QuarterTurn(pauli), behind)
+    kept(row, Step::QuarterTurn(pauli), cursor, next)
 }

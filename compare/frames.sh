@@ -1,5 +1,5 @@
 #!/usr/bin/env bash
-# Runs the check of the frame theorem on random runs.
+# Runs the check of the frame theorem on random runs, by the service and by the emulator, and that the two leave the same.
 #
 #   frames.sh [ARGUMENTS of the program frames]
 #

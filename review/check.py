@@ -25,6 +25,7 @@ support-some support-none letter-set letter-kept coefficient-kept exact round-tr
 run-exact book starred printed constants survey-most survey-most-scratch source-only open-drop seen-tells seen-once read-tells past-tells qubit-tells
 default-top listed-run listed-refusal listed-count fresh-first fresh-others run-pieces pieces-run pauli-same pauli-small correction-piece
 seen-by-a-tag seen-by-its-tag step-tag end-tag quarter-turn-is flag-own
+frame-at-the-emulator service-and-emulator only-the-emulator only-the-service
 """.split())
 found = []
 

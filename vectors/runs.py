@@ -8,19 +8,21 @@
     runs.py bench < run > text           what the program `bench` prints of a run
     runs.py listings PROGRAM SEED COUNT  COUNT random runs given to PROGRAM (target/bin/bench) as well, and compared so
 
-Written from the scope's text (document 01) and, for quarter turns, from request
-E13 (document 02), which the comments quote, without the Rattle's definitions of
-runs; its writer had seen the Rattle code of reader and checker before. It shares
-no code with the Rattle or the Rust. The kernels' steps are those of model.py; a
-quarter turn is its rotation.
+Written from the scope's text (document 01) and, for quarter turns and the emulator,
+from requests E13 and E8 (document 02), which the comments quote, without the Rattle's
+definitions of runs; its writer had seen the Rattle code of reader and checker before,
+the emulator's part was written without any Rattle code. It shares no code with the
+Rattle or the Rust. The kernels' steps are those of model.py; a quarter turn is its
+rotation.
 
 A call is its name, a run, numbers (masks after 0x), then the lent buffers as in
 model.py, a bar before each. A run is hexadecimal digits in pieces with commas
 between; `3*` before a piece stands for three of it.
 
     field RUN at                    the field there: tag, where the next begins, body; or the refusal and no body
-    start RUN limit                 the first field's width, or `none`
-    step RUN at width limit         the step read there and the cursor behind it, or `end`
+    start RUN                       the width that the first field gives, whatever it is, or `none`
+    step RUN at width limit         the step read there and the cursor behind it, or `end`, by the service's rows under
+                                    that limit
     check RUN                       last width, steps, greatest width, amplitudes that the scratch must hold
     cuts RUN                        the check of the run cut at each byte
     run RUN m n | re | im           the last width and the steps done, all buffers; the scratch has m entries 7 and n
@@ -33,6 +35,13 @@ between; `3*` before a piece stands for three of it.
     both RUN width k x z | re | im  demand 3: for each basis the amplitude of (Pauli, run) and of (carried run,
                                     end Pauli), then `same`, `nan` (alike but for NaNs on both sides) or `differ`
 
+    emulated-step RUN at width
+    emulated-check RUN
+    emulated-run RUN m n | re | im
+    emulated-carry RUN width k x z length
+    emulated-both RUN width k x z | re | im
+                                    step, check, run, carry and both for the emulator; the calls above are the service's
+
 `refused` and the number, `at` and the offset where it has one, is a refusal.
 """
 
@@ -40,11 +49,11 @@ import random
 import struct
 import subprocess
 import sys
+from collections import namedtuple
 
 import model
 from model import Pauli, Refused, number, parity, refuse, shown
 
-WIDEST = 12
 LONGEST = 65536
 FILLED = 0xEE
 ROOM = 160  # Floats that a lent buffer may have.
@@ -52,6 +61,21 @@ ROOM = 160  # Floats that a lent buffer may have.
 
 class RefusedAt(Exception):
     """A refusal with its place: the number, the offset of the tag."""
+
+
+# Who calls: the widest state that it has, and the rows of a start over it and of a promotion at it.
+Caller = namedtuple("Caller", "widest start_row promotion_row")
+
+SERVICE = Caller(12, 14, 15)
+# 21, a start over 6 or a promotion at 6 on the emulator only, takes the place of 15 and of the start
+# limit in 14, with the tag's offset.
+EMULATOR = Caller(6, 21, 21)
+EMULATED = "emulated-"  # Before the name of a call for the emulator.
+
+
+def within(limit):
+    """The service under another limit: its rows stay."""
+    return SERVICE._replace(widest=limit)
 
 
 # ------------------------------------------------------------------- reading
@@ -71,16 +95,16 @@ def field(run, at):
     return tag, run[at + 3 : behind], behind
 
 
-def start(run, limit):
-    """Tag 1, length 1, n in 0..12; None where the run is too long or begins with something else."""
+def start(run):
+    """The width of a field of tag 1 and length 1; None where the run is too long or begins with something else."""
     try:
         tag, body, _ = field(run, 0)
     except RefusedAt:
         return None
-    return body[0] if tag == 1 and len(body) == 1 and body[0] <= limit else None
+    return body[0] if tag == 1 and len(body) == 1 else None
 
 
-def step_of(tag, body, width, limit):
+def step_of(tag, body, width, caller):
     """The step that a field of the right length is, and the width behind it."""
     if tag == 3:
         # The kernel's own rows first, as for the other steps.
@@ -88,7 +112,7 @@ def step_of(tag, body, width, limit):
         refuse(3, width > 256)
         refuse(6, width > 60)
         model.check_units(c, q)
-        refuse(15, width >= limit)
+        refuse(caller.promotion_row, width >= caller.widest)
         return ("promotion", c, q), width + 1
     # A step's Pauli is 17 bytes: k, x, z; its width is the current one.
     pauli = Pauli(width, *struct.unpack_from("<BQQ", body))
@@ -114,31 +138,33 @@ def step_of(tag, body, width, limit):
 LENGTHS = {2: 34, 3: 16, 4: 27, 5: 17, 7: 17}
 
 
-def read(run, at, width, limit):
+def read(run, at, width, caller):
     """The step at `at` and the cursor behind it; None for a step at the end field. No run leads to
-    a width over the limit: a field there stands in a wrong place."""
+    a width over the caller's widest: a field there stands in a wrong place."""
     tag, body, behind = field(run, at)
-    if width > limit:
+    if width > caller.widest:
         raise RefusedAt(14, at)
     if tag == 6 and not body:
         return None, behind, width
     if LENGTHS.get(tag) != len(body):
         raise RefusedAt(14, at)
     try:
-        step, after = step_of(tag, body, width, limit)
+        step, after = step_of(tag, body, width, caller)
     except Refused as refusal:
         raise RefusedAt(refusal.args[0], at)
     return step, behind, after
 
 
-def walk(run):
+def walk(run, caller):
     """The start width and the steps, each with the offset of its tag."""
-    first = start(run, WIDEST)
+    first = start(run)
     if first is None:
         raise RefusedAt(14, 0)
+    if first > caller.widest:
+        raise RefusedAt(caller.start_row, 0)
     at, width, steps = 4, first, []
     while True:
-        step, behind, width = read(run, at, width, WIDEST)
+        step, behind, width = read(run, at, width, caller)
         if step is None:
             break
         steps.append((at, step))
@@ -152,10 +178,10 @@ def width_after(width, step):
     return width + {"promotion": 1, "projection": -1}.get(step[0], 0)
 
 
-def survey(run):
+def survey(run, caller):
     """Last width, number of steps, greatest width, and the largest state left by a
     projection with x not 0."""
-    width, steps = walk(run)
+    width, steps = walk(run, caller)
     greatest, scratch = width, 0
     for _, step in steps:
         if step[0] == "projection" and step[1].x:
@@ -183,12 +209,12 @@ def run_step(width, step, re, im, scratch_re, scratch_im):
         model.correct(*rest, re, im)
 
 
-def run_whole(run, re, im, scratch_re, scratch_im, seen=lambda width: None):
+def run_whole(run, caller, re, im, scratch_re, scratch_im, seen=lambda width: None):
     """The last width and the number of steps done; `seen` is told each width on the way."""
-    last, count, greatest, scratch = survey(run)
+    last, count, greatest, scratch = survey(run, caller)
     refuse(13, min(len(re), len(im)) < 2**greatest)
     refuse(13, min(len(scratch_re), len(scratch_im)) < scratch)
-    width, steps = walk(run)
+    width, steps = walk(run, caller)
     seen(width)
     for _, step in steps:
         run_step(width, step, re, im, scratch_re, scratch_im)
@@ -254,9 +280,9 @@ def past(pauli, step):
     return passed(pauli, step)
 
 
-def carry(run, pauli, room):
+def carry(run, caller, pauli, room):
     """The carried run, of equal length, and the end Pauli; `room` is the output's length."""
-    width, steps = walk(run)
+    width, steps = walk(run, caller)
     refuse(3, not pauli.fits())
     refuse(4, pauli.n != width)
     refuse(16, room < len(run))
@@ -286,13 +312,13 @@ def lent(part, past):
     return (part + [past] * ROOM)[:ROOM]
 
 
-def both_sides(run, pauli, re, im):
+def both_sides(run, caller, pauli, re, im):
     """Each basis with both amplitudes; the verdict; whether demand 3 promises `same`."""
-    carried, end = carry(run, pauli, len(run))
+    carried, end = carry(run, caller, pauli, len(run))
     left = [lent(re, 0.0), lent(im, 0.0), lent([], 0.0), lent([], 0.0)]
     right = [lent(re, 7.0), lent(im, 7.0), lent([], 0.0), lent([], 0.0)]
     model.correct(pauli, *left[:2])
-    last, _ = run_whole(run, *left)
+    last, _ = run_whole(run, caller, *left)
     finite = True
 
     def seen(width):
@@ -300,7 +326,7 @@ def both_sides(run, pauli, re, im):
         parts = right[0][: 2**width] + right[1][: 2**width]
         finite = finite and all(abs(x) < float("inf") for x in parts)
 
-    run_whole(carried, *right, seen)
+    run_whole(carried, caller, *right, seen)
     model.correct(end, *right[:2])
     lines, worst = [], 0
     for b in range(2**last):
@@ -326,9 +352,9 @@ def refused(refusal):
     return f"refused {refusal.args[0]}{place}"
 
 
-def told_check(run):
+def told_check(run, caller):
     try:
-        return "run {} {} {} {}".format(*survey(run))
+        return "run {} {} {} {}".format(*survey(run, caller))
     except RefusedAt as refusal:
         return refused(refusal)
 
@@ -341,8 +367,8 @@ def told_field(run, at):
     return f"{tag} {behind} [{body.hex()}]"
 
 
-def told_start(run, limit):
-    width = start(run, limit)
+def told_start(run):
+    width = start(run)
     return "none" if width is None else str(width)
 
 
@@ -354,8 +380,8 @@ def told_step(step):
     return " ".join(words)
 
 
-def told_read(run, at, width, limit):
-    step, *cursor = read(run, at, width, limit)
+def told_read(run, at, width, caller):
+    step, *cursor = read(run, at, width, caller)
     return " ".join([told_step(step or ["end"]), *map(str, cursor)])
 
 
@@ -380,17 +406,17 @@ def told_output(run, out):
     return "".join(changed) + tail
 
 
-def told_carry(run, pauli, room):
+def told_carry(run, caller, pauli, room):
     out = bytes([FILLED]) * room
     try:
-        carried, end = carry(run, pauli, room)
+        carried, end = carry(run, caller, pauli, room)
     except (Refused, RefusedAt) as refusal:
         return refused(refusal) + told_output(b"", out)
     return "carried " + end.shown() + told_output(run, carried + out[len(run) :])
 
 
-def told_both(run, pauli, re, im):
-    lines, verdict, finite = both_sides(run, pauli, re, im)
+def told_both(run, caller, pauli, re, im):
+    lines, verdict, finite = both_sides(run, caller, pauli, re, im)
     assert verdict == "same" or not finite, "demand 3"
     return " | ".join([*lines, verdict])
 
@@ -399,7 +425,8 @@ def answer(line):
     if line.startswith("#"):
         return line
     head, *parts = line.split("|")
-    name, text, *words = head.split()
+    call, text, *words = head.split()
+    caller, name = EMULATOR if call.startswith(EMULATED) else SERVICE, call.removeprefix(EMULATED)
     run = bytes_of(text)
     words = [int(word, 0) for word in words]
     buffers = [[number(int(word, 16)) for word in part.split()] for part in parts]
@@ -407,22 +434,23 @@ def answer(line):
         if name == "field":
             return told_field(run, *words)
         if name == "start":
-            return told_start(run, *words)
+            return told_start(run)
         if name == "step":
-            return told_read(run, *words)
+            at, width, *limit = words
+            return told_read(run, at, width, within(*limit) if limit else caller)
         if name == "check":
-            return told_check(run)
+            return told_check(run, caller)
         if name == "cuts":
-            return "".join(told_check(run[:cut]) + "," for cut in range(len(run)))
+            return "".join(told_check(run[:cut], caller) + "," for cut in range(len(run)))
         if name == "carry":
-            return told_carry(run, Pauli(*words[:4]), words[4])
+            return told_carry(run, caller, Pauli(*words[:4]), words[4])
         if name == "both":
-            return told_both(run, Pauli(*words), *buffers)
+            return told_both(run, caller, Pauli(*words), *buffers)
         if name == "passing":
             return told_past(run[0], words, *buffers)
         assert name == "run"
         buffers += [[past] * size for past, size in zip((7.0, 7.5), words)]
-        outcome = "finished {} {}".format(*run_whole(run, *buffers))
+        outcome = "finished {} {}".format(*run_whole(run, caller, *buffers))
     except (Refused, RefusedAt) as refusal:
         outcome = refused(refusal)
     for buffer in buffers if name == "run" else []:
@@ -483,6 +511,11 @@ def floats(values):
 
 def check_line(*pieces):
     return f"check {spelled(*pieces)}"
+
+
+def on_emulator(line):
+    """The same call for the emulator."""
+    return EMULATED + line
 
 
 def run_line(text, re, im, m=0, n=0):
@@ -570,20 +603,14 @@ def fields(lines):
 
 
 def starts(lines):
-    lines.say("The start field's width under a limit: 12, then others.")
-    for n in (0, 1, 12):
-        lines.ask(f"start {spelled(starting(n))} 12", str(n))
-    for n in (13, 14, 128, 255):
-        lines.ask(f"start {spelled(starting(n))} 12", "none")
-    for n, limit in ((6, 6), (0, 0), (255, 255), (255, 2**64 - 1)):
-        lines.ask(f"start {spelled(starting(n))} {limit}", str(n))
-    for n, limit in ((7, 6), (1, 0), (255, 254)):
-        lines.ask(f"start {spelled(starting(n))} {limit}", "none")
+    lines.say("The start field's width, whatever it is.")
+    for n in (0, 1, 5, 6, 7, 11, 12, 13, 14, 127, 128, 254, 255):
+        lines.ask(f"start {spelled(starting(n))}", str(n))
     lines.say("No start: another tag, another length, cut, nothing.")
     for run in (b"\x00\x01\x00\x01", b"\x02\x01\x00\x01", b"\x01\x00\x00", b"\x01\x02\x00\x01\x01"):
-        lines.ask(f"start {spelled(run)} 12", "none")
+        lines.ask(f"start {spelled(run)}", "none")
     for cut in range(4):
-        lines.ask(f"start {spelled(starting(1)[:cut])} 12", "none")
+        lines.ask(f"start {spelled(starting(1)[:cut])}", "none")
 
 
 def reads(lines):
@@ -889,12 +916,12 @@ def lengths(lines):
     lines.ask(f"step {longest} 65533 1 12", "end 65536 1")
     lines.ask(f"step {longest} 4 13 12", "refused 14 at 4")
     lines.ask(f"field {longest} 65533", "6 65536 []")
-    lines.ask(f"start {longest} 12", "1")
+    lines.ask(f"start {longest}", "1")
     for at, width in ((4, 1), (4, 13), (5, 1), (65534, 1), (65537, 1), (2**64 - 1, 1)):
         lines.ask(f"step {over} {at} {width} 12", "refused 14 at 0")
     for at in (0, 4, 65534, 65537):
         lines.ask(f"field {over} {at}", "refused 14 at 0 []")
-    lines.ask(f"start {over} 12", "none")
+    lines.ask(f"start {over}", "none")
     lines.say("65,536 with a fault at the end, with one in the middle; 65,537 with one.")
     inner = (3244, correcting())
     lines.ask(check_line(starting(1), (17, rotating()), inner, correcting((4, 0, 0)), END), "refused 3 at 65513")
@@ -1303,11 +1330,264 @@ def passes_of_turns(lines):
     lines.ask(pass_line((62, 0, 1, 0), 7, (62, 0, 0, 1)), "quarter-turn 62 0 0x0 0x1 62 1 0x1 0x1")
 
 
+def emulated(lines):
+    """The emulator of 64 amplitudes: its limit and its rows, beside the service's answer to the same run."""
+    emulated_starts(lines)
+    emulated_promotions(lines)
+    emulated_order(lines)
+    emulated_steps(lines)
+    emulated_runs(lines)
+    emulated_carrying(lines)
+    emulated_room(lines)
+    emulated_unread(lines)
+    emulated_both(lines)
+
+
+def beside(lines, pieces, service, emulator):
+    """The check of a run by the service and by the emulator."""
+    line = check_line(*pieces)
+    lines.ask(line, service)
+    lines.ask(on_emulator(line), emulator)
+
+
+def alone(lines, pieces, told):
+    """The check of a run by the emulator, where the service's answer is the same, or stands further up."""
+    lines.ask(on_emulator(check_line(*pieces)), told)
+
+
+def kept_by(row, parts, m=0, n=0):
+    """A run refused by that row: all buffers as they were lent."""
+    return f"refused {row}" + "".join(f" |{floats(part)}" for part in (*parts, [7.0] * m, [7.5] * n))
+
+
+def emulated_starts(lines):
+    lines.say("The emulator has 64 amplitudes, the service 4,096. Starts on the service, then on the emulator: 21 over 6.")
+    for n in (0, 5, 6, 7, 11, 12, 13, 254, 255):
+        taken = f"run {n} 0 {n} 0"
+        beside(lines, [starting(n), END], taken if n <= 12 else "refused 14 at 0", taken if n <= 6 else "refused 21 at 0")
+    lines.say("No start field is 14 at 0 on the emulator too, whatever stands where a width would: tag, length, cut, nothing.")
+    for first in (framed(0, b"\7"), framed(2, b"\7"), framed(6, b"\xff"), framed(1, b""), framed(1, b"\7\7"), framed(1, b"\xff\0")):
+        alone(lines, [first, END], "refused 14 at 0")
+    for cut in range(4):
+        alone(lines, [starting(7)[:cut]], "refused 14 at 0")
+    lines.say("A start over 6 in 65,536 bytes and in one more.")
+    alone(lines, [starting(7), END, (65529, bytes(1))], "refused 21 at 0")
+    alone(lines, [starting(7), END, (65530, bytes(1))], "refused 14 at 0")
+    lines.say("A start over 6 is refused before what stands behind it.")
+    beside(lines, [starting(7)], "refused 14 at 4", "refused 21 at 0")
+    beside(lines, [starting(12), correcting((4, 0, 0)), END], "refused 3 at 4", "refused 21 at 0")
+    beside(lines, [starting(12), promoting(), END], "refused 15 at 4", "refused 21 at 0")
+
+
+def emulated_promotions(lines):
+    lines.say("A promotion at 5, and at 6: 21 in 15's place.")
+    beside(lines, [starting(5), promoting(), END], "run 6 1 6 0", "run 6 1 6 0")
+    beside(lines, [starting(6), promoting(), END], "run 7 1 7 0", "refused 21 at 4")
+    lines.say("8 before it: c or q a NaN or over 1, at 5 and at 6.")
+    alone(lines, [starting(5), promoting(NAN), END], "refused 8 at 4")
+    beside(lines, [starting(6), promoting(NAN), END], "refused 8 at 4", "refused 8 at 4")
+    for c, q in ((0.6, NAN), (ABOVE_ONE, 0.8), (0.6, -2.0)):
+        alone(lines, [starting(6), promoting(c, q), END], "refused 8 at 4")
+    lines.say("At 6 behind other steps, twice, by promotions alone, left and reached again.")
+    steps = [turning((1, 16, 16)), promoting(), correcting((3, 32, 1)), promoting()]
+    beside(lines, [starting(5), *steps, END], "run 7 4 7 0", "refused 21 at 63")
+    alone(lines, [starting(5), *steps[:-1], END], "run 6 3 6 0")
+    beside(lines, [starting(6), (2, promoting()), END], "run 8 2 8 0", "refused 21 at 4")
+    alone(lines, [starting(0), (6, promoting()), END], "run 6 6 6 0")
+    beside(lines, [starting(0), (7, promoting()), END], "run 7 7 7 0", "refused 21 at 118")
+    alone(lines, [starting(6), projecting(), promoting(), END], "run 6 2 6 32")
+    beside(lines, [starting(6), projecting(), (2, promoting()), END], "run 7 3 7 32", "refused 21 at 53")
+    lines.say("What stands behind a promotion at 6, at a width of 7, is never reached.")
+    beside(lines, [starting(6), promoting(), projecting((0, 64, 0), 6), END], "run 6 2 7 64", "refused 21 at 4")
+    beside(lines, [starting(6), promoting(), projecting((4, 0, 0)), END], "refused 3 at 23", "refused 21 at 4")
+
+
+def emulated_order(lines):
+    lines.say("21 before what is wrong behind it: 14 of a field, of a missing end, of bytes past the end.")
+    beside(lines, [starting(6), promoting(), framed(0, b""), END], "refused 14 at 23", "refused 21 at 4")
+    beside(lines, [starting(6), promoting()], "refused 14 at 23", "refused 21 at 4")
+    beside(lines, [starting(6), promoting(), END, END], "refused 14 at 26", "refused 21 at 4")
+    lines.say("What is wrong before it goes before it: 14, 7, 3, each in a field of its own; a promotion that is cut or too short.")
+    for row, first in ((14, framed(0, b"")), (7, rotating((1, 1, 0)))):
+        beside(lines, [starting(6), first, promoting(), END], f"refused {row} at 4", f"refused {row} at 4")
+    for row, first in ((14, rotating(X, 2)), (3, correcting((0, 64, 0)))):
+        alone(lines, [starting(6), first, promoting(), END], f"refused {row} at 4")
+    alone(lines, [starting(6), promoting()[:-1]], "refused 14 at 4")
+    alone(lines, [starting(6), framed(3, bytes(15)), END], "refused 14 at 4")
+    alone(lines, [starting(6), promoting(), (65514, bytes(1))], "refused 14 at 0")
+
+
+def emulated_steps(lines):
+    lines.say("A promotion read at a cursor of 5, 6, 7, 12, 13 qubits by the emulator, and by the service under a limit of 6.")
+    text = spelled(starting(5), promoting(), promoting(NAN), correcting(), END)
+    taken = f"promotion {shown(0.6)} {shown(0.8)} 23 6"
+    for width, told in ((5, taken), (6, "refused 15 at 4"), (7, "refused 14 at 4")):
+        lines.ask(f"step {text} 4 {width} 6", told)
+    for width, told in ((5, taken), (6, "refused 21 at 4"), (7, None), (12, None), (13, None)):
+        lines.ask(f"emulated-step {text} 4 {width}", told or "refused 14 at 4")
+    lines.say("One with a NaN at 6 and at 7; a correction and the end at 6 and at 7; a start field.")
+    for at, width, told in (
+        (23, 6, "refused 8 at 23"),
+        (23, 7, "refused 14 at 23"),
+        (42, 6, "correction 6 0 0x1 0x0 62 6"),
+        (42, 7, "refused 14 at 42"),
+        (62, 6, "end 65 6"),
+        (62, 7, "refused 14 at 62"),
+        (0, 7, "refused 14 at 0"),
+    ):
+        lines.ask(f"emulated-step {text} {at} {width}", told)
+
+
+def emulated_runs(lines):
+    """Both callers on the same buffers."""
+    re, im = random_state(random.Random(8), 6)
+
+    def both(pieces, parts, m=0, n=0):
+        line = run_line(spelled(*pieces), *parts, m, n)
+        lines.ask(line)
+        lines.ask(on_emulator(line), answer(line))
+
+    lines.say("Run by both: six qubits in 64 entries, the same answer; 13 in 63 of re or of im.")
+    six = [starting(6), rotating((1, 33, 32)), turning((0, 32, 1)), correcting((3, 9, 18)), END]
+    both(six, (re, im))
+    for parts in ((re[:63], im), (re, im[:63])):
+        lines.ask(on_emulator(run_line(spelled(*six), *parts)), kept_by(13, parts))
+    lines.say("A promotion from 5 to 6; a mixing projection from 6 to 5 with 32 entries of each scratch, and with 31 of one.")
+    both([starting(5), promoting(), END], (re, im))
+    mixed = [starting(6), projecting((0, 32, 1), 5, 1, 1.25), END]
+    both(mixed, (re, im), 32, 32)
+    for m, n in ((31, 32), (32, 31)):
+        lines.ask(on_emulator(run_line(spelled(*mixed), re, im, m, n)), kept_by(13, (re, im), m, n))
+    lines.say("21 before 13, all buffers kept; on the service 13 alone. Few qubits in few entries, on both.")
+    some = [1.0, NAN, -0.0], [0.5, INFINITY]
+    for pieces, at in (([starting(7), END], 0), ([starting(6), promoting(), END], 4)):
+        line = run_line(spelled(*pieces), *some, 1, 2)
+        lines.ask(line, kept_by(13, some, 1, 2))
+        lines.ask(on_emulator(line), kept_by(f"21 at {at}", some, 1, 2))
+    both([starting(1), projecting(Y), END], some, 1, 1)
+
+
+def emulated_carrying(lines):
+    lines.say("Carried by both: the same. Z on the top qubit of six past its X, which is measured; every kind of step.")
+    top = spelled(starting(6), rotating((0, 32, 1)), projecting((0, 32, 1), 5, 1), promoting(), END)
+    every = spelled(*EVERY_KIND)
+    line = carry_line(top, 6, (0, 0, 32), 100)
+    for asked in (line, on_emulator(line)):
+        lines.ask(asked, "carried 6 0 0x0 0x0 24:01 62:00 kept")
+    line = carry_line(every, 2, (3, 3, 2), length(every))
+    lines.ask(on_emulator(line), answer(line))
+    for width, p, out, row in ((6, (0, 0, 64), 100, 3), (5, I, 100, 4), (6, I, length(top) - 1, 16)):
+        lines.ask(on_emulator(carry_line(top, width, p, out)), f"refused {row} kept")
+    lines.say("Refused by 21, before 3, 4 and 16 of the Pauli and the output, which is kept.")
+    seven = spelled(starting(6), promoting(), END)
+    lines.ask(carry_line(seven, 6, X, 26), "carried 7 0 0x1 0x0 kept")
+    for width, p, out in ((6, X, 26), (6, (4, 0, 0), 26), (7, I, 0)):
+        lines.ask(on_emulator(carry_line(seven, width, p, out)), "refused 21 at 4 kept")
+    lines.ask(on_emulator(carry_line(spelled(starting(7), END), 7, I, 7)), "refused 21 at 0 kept")
+    lines.ask(on_emulator(carry_line(spelled(framed(1, b"\7\7"), END), 7, I, 9)), "refused 14 at 0 kept")
+
+
+def emulated_room(lines):
+    """Six qubits reached by promotions: 64 entries of re and of im, by hand."""
+    lines.say("A promotion from 5 to 6 on the emulator: 13 in 63 entries of re or of im; in 64 of both the halves of the new qubit.")
+    re, im = random_state(random.Random(9), 6)
+    grown = spelled(starting(5), promoting(0.5, -1.0), END)
+    low = [[0.5 * x for x in part[:32]] for part in (re, im)]
+    high = im[:32], [-x for x in re[:32]]
+    for parts in ((re[:63], im), (re, im[:63])):
+        lines.ask(on_emulator(run_line(grown, *parts)), kept_by(13, parts))
+    lines.ask(
+        on_emulator(run_line(grown, re, im)),
+        f"finished 6 1 |{floats(low[0] + high[0])} |{floats(low[1] + high[1])} | |",
+    )
+    lines.say("Six promotions from no qubit with c 1/2, q 1: i for each one of a basis, 1/2 for each zero.")
+    six = spelled(starting(0), (6, promoting(0.5, 1.0)), END)
+    for parts in ((re[:63], im), (re, im[:63])):
+        lines.ask(on_emulator(run_line(six, *parts)), kept_by(13, parts))
+    r, i = 0.75, -0.625
+    turned = [(r, i), (-i, r), (-r, -i), (i, -r)]
+    grown_re, grown_im = (
+        [turned[ones % 4][part] / 2 ** (6 - ones) for ones in (bin(b).count("1") for b in range(64))] for part in (0, 1)
+    )
+    lines.ask(
+        on_emulator(run_line(six, [r, *re[1:]], [i, *im[1:]])),
+        f"finished 6 6 |{floats(grown_re)} |{floats(grown_im)} | |",
+    )
+
+
+def emulated_unread(lines):
+    """Runs of which no step is read."""
+    lines.say("Starts at 12, 13 and 255 run and carried by the emulator: 21 at 0, buffers and output kept.")
+    some = [1.0, NAN, -0.0], [0.5, INFINITY]
+    for n in (12, 13, 255):
+        text = spelled(starting(n), correcting(), END)
+        lines.ask(on_emulator(run_line(text, *some, 1, 2)), kept_by("21 at 0", some, 1, 2))
+        lines.ask(on_emulator(carry_line(text, n, X, 30)), "refused 21 at 0 kept")
+    lines.say("65,537 bytes run and carried by the emulator, from 1 and from 7 qubits: 14 at 0, all kept.")
+    for n in (1, 7):
+        over = spelled(starting(n), (10, rotating()), (3258, correcting()), END)
+        assert length(over) == LONGEST + 1
+        lines.ask(on_emulator(run_line(over, *some, 2, 1)), kept_by("14 at 0", some, 2, 1))
+        lines.ask(on_emulator(carry_line(over, n, Z, LONGEST + 1)), "refused 14 at 0 kept")
+
+
+def emulated_both(lines):
+    """Demand 3's two sides by the emulator's carrying and running."""
+
+    def alike(re, im):
+        """The same number on both sides, signs of zeros too."""
+        return " | ".join([f"{b}{floats([*parts, *parts])}" for b, parts in enumerate(zip(re, im))] + ["same"])
+
+    def as_service(line, verdict="same"):
+        assert answer(line).endswith(f" {verdict}")
+        lines.ask(on_emulator(line), answer(line))
+
+    lines.say("Both ways of demand 3 on the emulator: X past nothing and past Z fired, by hand; every kind of step, as on the service.")
+    one = [0.5, -0.75], [0.25, -0.0]
+    two = [0.1, 0.2, 0.3, 0.7], [-0.3, 0.6, 1e-310, -0.9]
+    line = on_emulator(both_line(spelled(starting(1), END), 1, X, *one))
+    lines.ask(line, alike([-0.75, 0.5], [-0.0, 0.25]))
+    line = on_emulator(both_line(spelled(starting(1), correcting(Z), END), 1, X, *one))
+    lines.ask(line, alike([-0.75, -0.5], [-0.0, -0.25]))
+    as_service(both_line(spelled(*TURNS), 0, (3, 0, 0), [0.5], [-0.25]))
+    as_service(both_line(spelled(*DIAGONAL), 1, Y, *one))
+    as_service(both_line(spelled(*EVERY_KIND), 2, (3, 3, 2), *two))
+    lines.say("Six qubits from the start. Z on qubit 0 from 5 to 6, and back to 5 by X on qubits 0 and 5, which it flips: by hand.")
+    wide = random_state(random.Random(10), 6)
+    steps = [rotating((1, 33, 32)), turning((0, 32, 1)), correcting((3, 9, 18))]
+    as_service(both_line(spelled(starting(6), *steps, END), 6, (2, 32, 17), *wide))
+    h, five = model.H, range(32)
+    re, im = [(b + 1) / 64 for b in five], [-(b + 40) / 64 for b in five]
+    back = spelled(starting(5), promoting(0.5, 0.5), projecting((0, 33, 0), 5, 0, 2.0), END)
+    line = on_emulator(both_line(back, 5, Z, re, im))
+    # Half of b and i times half of its partner, which is b xor 1 on the new qubit; Z takes odd b to its negative.
+    mixed = [(h * re[b] + h * im[b ^ 1], h * im[b] - h * re[b ^ 1]) for b in five]
+    lines.ask(line, alike(*([(-1) ** b * parts[part] for b, parts in enumerate(mixed)] for part in (0, 1))))
+    lines.say("Y on qubit 0, which is the pivot, from 5 to 6 to 5 and to 6 again, as on the service.")
+    again = [promoting(), projecting((0, 33, 0), 0, 1, 1.25), rotating((0, 16, 1)), promoting(-0.8, 0.6)]
+    as_service(both_line(spelled(starting(5), *again, END), 5, Y, *(part[:32] for part in wide)))
+    lines.say("Refused by 21, at the start and at a promotion at 6, before 3 of the Pauli; 3 and 4 of the Pauli alone.")
+    line = both_line(spelled(starting(6), promoting(), END), 6, X, *wide)
+    assert answer(line).endswith(" same")
+    lines.ask(on_emulator(line), "refused 21 at 4")
+    for n, p, pieces, told in (
+        (7, X, [starting(7), END], "21 at 0"),
+        (7, (4, 0, 0), [starting(7), END], "21 at 0"),
+        (6, (0, 64, 0), [starting(6), END], "3"),
+        (5, X, [starting(6), END], "4"),
+    ):
+        lines.ask(on_emulator(both_line(spelled(*pieces), n, p, *one)), f"refused {told}")
+    lines.say("An infinity at the start: times 0 on one side only, as on the service; times 0 on both, by hand.")
+    as_service(both_line(spelled(starting(1), projecting(), END), 1, X, [0.0, INFINITY], [0.0, 0.0]), "differ")
+    line = on_emulator(both_line(spelled(starting(0), promoting(0.0, 1.0), END), 0, I, [INFINITY], [0.0]))
+    lines.ask(line, f"0{floats([NAN, 0.0] * 2)} | 1{floats([-0.0, INFINITY] * 2)} | nan")
+
+
 def limits():
     lines = Lines()
     for section in (
         fields, starts, reads, accepted, single_rows, rows_together, wrong_fields, wrong_places,
-        two_fields, cuts, lengths, room, values, carrying, passes,
+        two_fields, cuts, lengths, room, values, carrying, passes, emulated,
     ):
         section(lines)
     return lines.lines
@@ -1377,7 +1657,7 @@ def replay():
         kinds |= {field_of[0] for field_of in run}
         q = (rng.randrange(4), rng.randrange(2**n), rng.randrange(2**n))
         line = both_line(spelled(*run), n, q, *random_state(rng, n))
-        _, verdict, finite = both_sides(b"".join(run), Pauli(n, *q), *buffers_of(line))
+        _, verdict, finite = both_sides(b"".join(run), SERVICE, Pauli(n, *q), *buffers_of(line))
         assert finite and verdict == "same"
         lines.ask(line)
     assert kinds == {1, 2, 3, 4, 5, 6, 7}
@@ -1474,6 +1754,8 @@ def faulty(rng, run):
 
 def random_text(rng, n, widest):
     run = random_run(rng, n, rng.randrange(7), widest)
+    if rng.randrange(10) == 0:  # Another start: what fits n qubits fits more.
+        run[0] = starting(rng.choice([5, 6, 6, 7, 7, 8, 12, 13, 255]))
     if rng.randrange(2):
         return spelled(*run), b"".join(run)
     whole = faulty(rng, run)
@@ -1482,32 +1764,57 @@ def random_text(rng, n, widest):
     return spelled(whole) if whole else spelled(), whole
 
 
+def cursors(run):
+    """The places of the fields, by their lengths, and the widths there, by their tags."""
+    at, width, places = 0, start(run) or 0, []
+    while True:
+        places.append((at, width))
+        try:
+            tag, _, at = field(run, at)
+        except RefusedAt:
+            return places
+        width = max(0, width + {3: 1, 4: -1}.get(tag, 0))
+
+
 def random_buffer(rng, exact):
     size = max(0, exact + rng.choice([0, 0, 0, 0, 0, 0, -1, 1, 3, -exact]))
     return [random_float(rng, rng.randrange(6) > 0) for _ in range(size)]
 
 
 def random_line(rng):
-    n = rng.choice([0, 1, 1, 2, 2, 2, 3, 3, 4, 11, 12])
-    widest = max(n, rng.choice([2, 3, 4, 5, 7, 12]))
-    text, run = random_text(rng, n, widest)
-    shares = {"check": 20, "run": 16, "carry": 16, "passing": 8, "both": 8, "step": 8, "field": 4, "start": 4, "cuts": 1}
+    shares = {"check": 20, "run": 16, "carry": 16, "passing": 8, "both": 11, "step": 8, "field": 4, "start": 4, "cuts": 1}
     call = rng.choices(list(shares), list(shares.values()))[0]
     if call == "passing":
         return random_pass(rng)
-    if call in ("check", "cuts"):
+    if call in ("check", "run", "carry", "both", "step") and rng.randrange(3) == 0:
+        # The emulator, and some of the same runs on the service: around its six qubits and few.
+        line = random_run_line(rng, call, *rng.choice([(2, 6), (4, 7), (5, 6), (5, 7), (5, 8), (6, 6), (6, 7), (6, 8), (7, 8)]))
+        step = f"{line} {rng.choice([6, 6, 7, 12])}" if call == "step" else line
+        return on_emulator(line) if rng.randrange(5) else step
+    n = rng.choice([0, 1, 1, 2, 2, 2, 3, 3, 4, 5, 6, 7, 11, 12])
+    line = random_run_line(rng, call, n, max(n, rng.choice([2, 3, 4, 5, 6, 7, 12, 13])))
+    return f"{line} {rng.choice([12, 12, 12, 6, rng.randrange(15)])}" if call == "step" else line
+
+
+def random_run_line(rng, call, n, widest):
+    """A call on a run from n qubits, for either caller; a step without its limit."""
+    text, run = random_text(rng, n, widest)
+    if call in ("check", "cuts", "start"):
         return f"{call} {text}"
-    if call in ("field", "step", "start"):
-        at = rng.choice([0, 4, 4, 4, len(run), rng.randrange(len(run) + 4)])
-        width, limit = rng.randrange(14), rng.choice([12, 12, 12, 6, rng.randrange(15)])
-        return f"{call} {text} " + {"field": f"{at}", "start": f"{limit}", "step": f"{at} {width} {limit}"}[call]
+    if call in ("field", "step"):
+        at, width = rng.choice(cursors(run))
+        at = rng.choice([at, at, at, 0, 4, len(run), rng.randrange(len(run) + 4)])
+        width = rng.choice([width, width, width, rng.randrange(14), rng.randrange(5, 8)])
+        return f"{call} {text} {at}" + f" {width}" * (call == "step")
     try:
-        _, _, greatest, scratch = survey(run)
+        _, _, greatest, scratch = survey(run, SERVICE)
     except RefusedAt:
         greatest, scratch = rng.randrange(3), rng.randrange(3)
     if call == "run":
-        sizes = [max(0, min(scratch, 33) + rng.choice([0, 0, 0, 0, 0, -1, 1])) for _ in (0, 1)]
-        return run_line(text, *[random_buffer(rng, min(2**greatest, 33)) for _ in (0, 1)], *sizes)
+        # Where there is no room in the program's buffers for all, for some.
+        state, left = (2**greatest, scratch) if greatest <= 7 else (33, min(scratch, 33))
+        sizes = [max(0, left + rng.choice([0, 0, 0, 0, 0, -1, 1])) for _ in (0, 1)]
+        return run_line(text, *[random_buffer(rng, state) for _ in (0, 1)], *sizes)
     width = n if rng.randrange(8) else rng.choice([0, n + 1, 256, 257])
     q = [rng.randrange(4), rng.randrange(2**n), rng.randrange(2**n)]
     if rng.randrange(12) == 0:
@@ -1515,7 +1822,7 @@ def random_line(rng):
     if call == "carry":
         out = max(0, len(run) + rng.choice([0, 0, 0, 1, 5, -1, -len(run), 250]))
         return carry_line(text, width, q, out)
-    first = min(start(run, WIDEST) or 0, 7)  # A wider run has no room in the program's buffers.
+    first = min(start(run) or 0, 7)  # A wider run has no room in the program's buffers.
     return both_line(text, width, q, *random_state(rng, first, rng.randrange(5) > 0))
 
 
@@ -1539,7 +1846,7 @@ def kind_of(asked, told):
         return call
     if words[0] == "refused":
         return f"{call} refused {words[1]}"
-    return f"{call} {words[-1] if call == 'both' else 'answered' if words[0].isdigit() else words[0]}"
+    return f"{call} {words[-1] if call.removeprefix(EMULATED) == 'both' else 'answered' if words[0].isdigit() else words[0]}"
 
 
 def fuzz(program, seed, count):
@@ -1575,11 +1882,12 @@ def listing(run):
     """Starts from amplitude (1, 0) at basis 0, and prints `qubits` and the last width, then each basis
     (decimal), re bits and im bits (16 lower-case hexadecimal digits, any NaN as 7ff8000000000000); or
     `refused N`."""
-    sizes = 2**WIDEST, 2**WIDEST, 2 ** (WIDEST - 1), 2 ** (WIDEST - 1)
+    state, left = 2**SERVICE.widest, 2 ** (SERVICE.widest - 1)
+    sizes = state, state, left, left
     re, im, *scratch = ([0.0] * size for size in sizes)
     re[0] = 1.0
     try:
-        width, _ = run_whole(run, re, im, *scratch)
+        width, _ = run_whole(run, SERVICE, re, im, *scratch)
     except (Refused, RefusedAt) as refusal:
         return f"refused {refusal.args[0]}\n"
     return f"qubits {width}\n" + "".join(f"{b} {shown(re[b])} {shown(im[b])}\n" for b in range(2**width))

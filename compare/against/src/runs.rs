@@ -103,7 +103,7 @@ impl Comparison<'_> {
             theirs,
         } = &mut self.sides;
         let [re, im, sre, sim] = before.all().map(<[f64]>::len);
-        let refusal = run::running(&bytes, [re, im], [sre, sim]).err();
+        let refusal = run::running(&bytes, run::SERVICE, [re, im], [sre, sim]).err();
         let answer = here::run_contiguous(
             &bytes,
             &mut ours.re,

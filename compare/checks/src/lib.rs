@@ -1,6 +1,7 @@
 //! What the two programs share: lent buffers that fault on an access outside them, bit-exact comparison,
 //! random input of every kind, and the checks themselves.
 
+pub mod callers;
 pub mod case;
 pub mod convert;
 pub mod direct_amplitudes;
@@ -18,5 +19,6 @@ pub mod patterns;
 pub mod state;
 pub mod tally;
 pub mod trials;
+pub mod two_callers;
 pub mod two_ways;
 pub mod wide;

@@ -6,7 +6,7 @@ use crate::offers::length_about;
 use crate::outcomes::Outcomes;
 use crate::patterns::{filling_bytes, hex};
 use model::dice::Dice;
-use model::run::{LIMIT, check_within};
+use model::run::{LIMIT, SERVICE, check};
 use naribhush::Refusal;
 
 /// The bits of a float, every NaN having the same.
@@ -19,7 +19,7 @@ fn bits(value: f64) -> u64 {
 
 /// `qubits` and the last width, then each basis with its two parts; or `refused` and the number.
 fn text(bytes: &[u8]) -> String {
-    let width = match check_within(bytes, LIMIT) {
+    let width = match check(bytes, SERVICE) {
         Err(refusal) => return format!("refused {}\n", refusal.number),
         Ok(survey) => survey.width,
     };

@@ -3,7 +3,7 @@
 use crate::{draw, floats};
 use model::dice::Dice;
 use model::pauli::Pauli;
-use model::run::{self, LIMIT, LONGEST, Run, Step};
+use model::run::{self, EMULATOR, LIMIT, LONGEST, Run, Step};
 
 /// Bytes to offer as a run: intact, damaged in one way or in several, or never a run at all.
 pub fn offered(dice: &mut Dice) -> Vec<u8> {
@@ -43,7 +43,7 @@ fn random_byte(dice: &mut Dice) -> u8 {
     }
 }
 
-/// Mostly of few qubits. The wide ones are read under a higher limit than the service's.
+/// Mostly of few qubits, some about the emulator's six. The wide ones are read under a higher limit than the service's.
 fn random_run(dice: &mut Dice) -> Run {
     let (start, limit) = match dice.below(40) {
         0 => (dice.below(LIMIT + 1), LIMIT),
@@ -51,6 +51,7 @@ fn random_run(dice: &mut Dice) -> Run {
         3 => (dice.pick(&[13, 19, 20, 21]), 25),
         4..=6 => (58 + dice.below(6), 64),
         7 => (dice.pick(&[64, 100, 254, 255]), 257),
+        8..=12 => (dice.pick(&[4, 5, 5, 6, 6, 6, 6, 7]), EMULATOR.widest + 2),
         _ => (dice.below(5), 6),
     };
     let count = dice.below(9);

@@ -1,6 +1,7 @@
-//! Bytes offered to every call that takes a run: the answer is the model's, a refused call writes nothing,
-//! an accepted one nothing past what it needs, and the lent run stays as it was.
+//! Bytes offered to every call that takes a run, the service's and the emulator's: the answer is the model's, a refused call
+//! writes nothing, an accepted one nothing past what it needs, and the lent run stays as it was.
 
+use crate::callers::{BOTH, Who};
 use crate::convert::{active, answer, ending, read, survey};
 use crate::draw;
 use crate::lent::Lender;
@@ -12,8 +13,8 @@ use crate::state::{Buffers, Contents, patterns};
 use model::carry::carrying;
 use model::dice::Dice;
 use model::pauli::Pauli;
-use model::run::{self, Survey, check_within, read_at, running};
-use naribhush::{Answer, Ending, Ledger, Read, Refusal};
+use model::run::{self, Caller, EMULATOR, Survey, read_at, running};
+use naribhush::{Answer, Ending, Ledger, Read};
 
 const LIMITS: [usize; 6] = [60, 61, 62, 256, 257, usize::MAX];
 
@@ -21,8 +22,10 @@ pub fn offer(lender: &Lender, dice: &mut Dice, bytes: &[u8], seen: &mut Outcomes
     let lent = lender.lend(dice, bytes);
     reads(dice, &lent, seen);
     check(dice, &lent, seen);
-    run(lender, dice, &lent, seen);
-    carry(lender, dice, &lent, seen);
+    for who in BOTH {
+        run(lender, dice, who, &lent, seen);
+        carry(lender, dice, who, &lent, seen);
+    }
     // Seldom: a listing can be 158,644 bytes long.
     if dice.once_in(16) {
         listing(lender, dice, &lent, seen);
@@ -65,7 +68,7 @@ fn any_cursor(dice: &mut Dice, bytes: &[u8]) -> (usize, usize) {
         _ => dice.pick(&places(bytes)),
     };
     let width = match dice.below(8) {
-        0 => dice.pick(&[12, 60, 61, 62, 63, 64, 255, 256, 257, usize::MAX]),
+        0 => dice.pick(&[6, 7, 12, 60, 61, 62, 63, 64, 255, 256, 257, usize::MAX]),
         1 | 2 => dice.below(14),
         _ => start,
     };
@@ -81,32 +84,65 @@ fn reads(dice: &mut Dice, bytes: &[u8], seen: &mut Outcomes) {
     for _ in 0..4 {
         let (at, width) = any_cursor(dice, bytes);
         let limit = any_limit(dice);
-        let expected = answer(read_at(bytes, at, width, limit), read);
         let answered = naribhush::read(bytes, at, width, limit);
-        let input = || format!("at {at}, width {width}, limit {limit}, run {}", hex(bytes));
-        let call = match bytes.get(at) {
-            Some(7) => "read a quarter turn",
-            _ => "read",
-        };
-        seen.answered(call, &answered, &expected, input);
-        let same = answered.map(float_bits) == expected.map(float_bits);
-        seen.holds("read", "its floats have the bits of the run", same, input);
+        let names = ["read", "read a quarter turn"];
+        let cursor = (at, width);
+        was_read(names, bytes, cursor, Caller::within(limit), answered, seen);
+
+        let answered = naribhush::read_emulated(bytes, at, width);
+        let names = ["read_emulated", "read_emulated, a quarter turn"];
+        was_read(names, bytes, cursor, EMULATOR, answered, seen);
     }
+}
+
+/// The names are that of the call, and that for a quarter turn.
+fn was_read(
+    names: [&'static str; 2],
+    bytes: &[u8],
+    (at, width): (usize, usize),
+    caller: Caller,
+    answered: Answer<Read>,
+    seen: &mut Outcomes,
+) {
+    let expected = answer(read_at(bytes, at, width, caller), read);
+    let input = || format!("at {at}, width {width}, {caller:?}, run {}", hex(bytes));
+    let call = names[usize::from(bytes.get(at) == Some(&7))];
+    seen.answered(call, &answered, &expected, input);
+    let same = answered.map(float_bits) == expected.map(float_bits);
+    seen.holds(call, "its floats have the bits of the run", same, input);
 }
 
 // ----------------------------------------------------------------- checking
 
 fn check(dice: &mut Dice, bytes: &[u8], seen: &mut Outcomes) {
-    let expected = answer(check_within(bytes, run::LIMIT), survey);
-    let answered = naribhush::check_run(bytes);
+    let [service, emulator] = BOTH.map(|who| {
+        let expected = answer(run::check(bytes, who.caller()), survey);
+        let answered = who.check(bytes);
+        let input = || format!("run {}", hex(bytes));
+        seen.answered(check_name(who, &answered), &answered, &expected, input);
+        answered
+    });
+    // The two answers alone, without the model.
+    let narrow = |seen: &naribhush::Survey| seen.greatest <= EMULATOR.widest;
+    let same = emulator.ok() == service.ok().filter(narrow);
     let input = || format!("run {}", hex(bytes));
-    seen.answered("check_run", &answered, &expected, input);
+    let what = "it takes what the service takes up to 6 qubits, and no more";
+    seen.holds("check_emulated", what, same, input);
 
     let limit = any_limit(dice);
-    let expected = answer(check_within(bytes, limit), survey);
+    let expected = answer(run::check(bytes, Caller::within(limit)), survey);
     let answered = naribhush::check_within(bytes, limit);
     let input = || format!("limit {limit}, run {}", hex(bytes));
     seen.answered("check_within", &answered, &expected, input);
+}
+
+/// The emulator's refusals of a first field are counted apart from those of a step.
+fn check_name<T>(who: Who, answered: &Answer<T>) -> &'static str {
+    match (who, answered) {
+        (Who::Service, _) => "check_run",
+        (Who::Emulator, Err(refusal)) if refusal.place == Some(0) => "check_emulated, first field",
+        (Who::Emulator, _) => "check_emulated",
+    }
 }
 
 // ------------------------------------------------------------------ running
@@ -130,47 +166,38 @@ fn lengths_about(dice: &mut Dice, seen: Survey) -> [usize; 4] {
     }
 }
 
-fn run(lender: &Lender, dice: &mut Dice, bytes: &[u8], seen: &mut Outcomes) {
+fn run(lender: &Lender, dice: &mut Dice, who: Who, bytes: &[u8], seen: &mut Outcomes) {
+    let names = who.names();
     let guess = Survey {
         width: 0,
         steps: 0,
         greatest: dice.below(5),
         scratch: dice.below(9),
     };
-    let needs = check_within(bytes, run::LIMIT).unwrap_or(guess);
+    let needs = run::check(bytes, who.caller()).unwrap_or(guess);
     let lengths = lengths_about(dice, needs);
     let before = patterns(dice, lengths);
     let [re, im, scratch_re, scratch_im] = lengths;
-    let expected = answer(running(bytes, [re, im], [scratch_re, scratch_im]), ending);
+    let model = running(bytes, who.caller(), [re, im], [scratch_re, scratch_im]);
+    let expected = answer(model, ending);
     let input = || format!("lengths {lengths:?}, run {}", hex(bytes));
 
     let mut buffers = Buffers::lend(lender, dice, &before);
-    let answered = buffers.run(bytes);
-    seen.answered(of_caller("run", &answered), &answered, &expected, input);
+    let answered = who.run(bytes, &mut buffers);
+    seen.answered(names.run.of(&answered), &answered, &expected, input);
     let kept = kept(&buffers, &before, &answered, needs);
-    seen.holds("run", "lent buffers are kept", kept, input);
+    seen.holds(names.run.run, "lent buffers are kept", kept, input);
 
     let ledger = any_ledger(dice);
     let mut served = Buffers::lend(lender, dice, &before);
-    let (answered, after) = served.serve(ledger, bytes);
-    seen.answered(of_caller("serve", &answered), &answered, &expected, input);
+    let (answered, after) = who.serve(ledger, bytes, &mut served);
+    seen.answered(names.serve.of(&answered), &answered, &expected, input);
+    let call = names.serve.run;
     let same = served.same_but_nan(&buffers.contents());
-    seen.holds("serve", "it leaves what running leaves", same, input);
+    seen.holds(call, "it leaves what running leaves", same, input);
     let counts = || format!("{ledger:?} became {after:?}, run {}", hex(bytes));
-    let right = after == counted(ledger, answered.is_ok());
-    seen.holds("serve", "the ledger counts the call", right, counts);
-}
-
-/// The caller's own rows are counted apart from the run's, which have a place.
-fn of_caller<T>(call: &'static str, answer: &Answer<T>) -> &'static str {
-    let Err(Refusal { place: None, .. }) = answer else {
-        return call;
-    };
-    match call {
-        "run" => "run, caller's",
-        "serve" => "serve, caller's",
-        _ => "carry, caller's",
-    }
+    let right = after == who.counted(ledger, answered.is_ok());
+    seen.holds(call, "the ledger counts the service's calls", right, counts);
 }
 
 /// Refused: everything as it was. Accepted: what lies past the greatest state and past the scratch needed.
@@ -195,14 +222,6 @@ fn any_ledger(dice: &mut Dice) -> Ledger {
     }
 }
 
-fn counted(ledger: Ledger, finished: bool) -> Ledger {
-    Ledger {
-        offered: ledger.offered.wrapping_add(1),
-        finished: ledger.finished.wrapping_add(u64::from(finished)),
-        refused: ledger.refused.wrapping_add(u64::from(!finished)),
-    }
-}
-
 // ----------------------------------------------------------------- carrying
 
 /// Mostly on the run's start qubits.
@@ -217,7 +236,8 @@ fn any_frame(dice: &mut Dice, start: usize) -> Pauli {
     q
 }
 
-fn carry(lender: &Lender, dice: &mut Dice, bytes: &[u8], seen: &mut Outcomes) {
+fn carry(lender: &Lender, dice: &mut Dice, who: Who, bytes: &[u8], seen: &mut Outcomes) {
+    let name = &who.names().carry;
     let start = bytes.get(3).map_or(0, |&n| n as usize);
     let q = any_frame(dice, start);
     let room = match dice.once_in(3) {
@@ -226,13 +246,13 @@ fn carry(lender: &Lender, dice: &mut Dice, bytes: &[u8], seen: &mut Outcomes) {
     };
     let before = filling_bytes(dice, room);
     let mut out = lender.lend(dice, &before);
-    let answered = naribhush::carry_run(bytes, active(q), &mut out);
+    let answered = who.carry(bytes, active(q), &mut out);
 
     let input = || format!("{q:?}, room {room}, run {}", hex(bytes));
-    let expected = carrying(bytes, q, room);
+    let expected = carrying(bytes, who.caller(), q, room);
     let end = answer(expected.clone(), |(_, end)| active(end));
-    seen.answered(of_caller("carry", &answered), &answered, &end, input);
+    seen.answered(name.of(&answered), &answered, &end, input);
     let written = expected.map_or(Vec::new(), |(carried, _)| carried);
     let right = out.starts_with(&written) && out[written.len()..] == before[written.len()..];
-    seen.holds("carry", "out is as it should be", right, input);
+    seen.holds(name.run, "out is as it should be", right, input);
 }

@@ -7,7 +7,7 @@ use std::collections::BTreeMap;
 use std::fmt::Debug;
 
 /// Row 0 counts what was accepted.
-pub const ROWS: usize = 17;
+pub const ROWS: usize = 22;
 
 #[derive(Default)]
 pub struct Outcomes {
@@ -76,7 +76,7 @@ impl Outcomes {
         for (call, rows) in &self.calls {
             let seen = (0..ROWS).filter(|row| rows[*row] > 0);
             let counts = seen.map(|row| format!("{row}: {}", rows[row]));
-            println!("{call:26} {}", counts.collect::<Vec<_>>().join(", "));
+            println!("{call:30} {}", counts.collect::<Vec<_>>().join(", "));
         }
     }
 }

@@ -3,7 +3,6 @@
 use crate::lent::{Lender, Lent};
 use crate::patterns::{filling, same_bits, same_but_nan};
 use model::dice::Dice;
-use naribhush::{Answer, Ending, Ledger};
 
 /// What the buffers hold: re, im, and the scratch of each.
 pub type Contents = [Vec<f64>; 4];
@@ -31,16 +30,6 @@ impl<'a> Buffers<'a> {
                 .each_ref()
                 .map(|content| lender.lend(dice, content)),
         )
-    }
-
-    pub fn run(&mut self, bytes: &[u8]) -> Answer<Ending> {
-        let [re, im, scratch_re, scratch_im] = &mut self.0;
-        naribhush::run_contiguous(bytes, re, im, scratch_re, scratch_im)
-    }
-
-    pub fn serve(&mut self, ledger: Ledger, bytes: &[u8]) -> (Answer<Ending>, Ledger) {
-        let [re, im, scratch_re, scratch_im] = &mut self.0;
-        naribhush::serve(ledger, bytes, re, im, scratch_re, scratch_im)
     }
 
     pub fn contents(&self) -> Contents {

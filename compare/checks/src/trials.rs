@@ -4,14 +4,15 @@ use crate::two_ways::Trial;
 use crate::{draw, floats};
 use model::dice::Dice;
 use model::pauli::Pauli;
-use model::run::{LIMIT, Run, Step, step_row};
+use model::run::{EMULATOR, LIMIT, Run, SERVICE, Step, step_row};
 
-/// Most runs have few qubits, so that a million of them take minutes; once in a while up to 12.
+/// Most runs have few qubits, so that a million of them take minutes, and the emulator takes them too; once in a while up to 12.
 pub fn random_trial(dice: &mut Dice) -> Trial {
     let (start, limit) = match dice.below(200) {
         0..=2 => (dice.below(LIMIT + 1), LIMIT),
         3..=12 => (6 + dice.below(4), 9),
-        _ => (dice.below(6), 6),
+        13..=22 => (EMULATOR.widest, EMULATOR.widest),
+        _ => (dice.below(EMULATOR.widest), EMULATOR.widest),
     };
     let count = dice.below(25);
     Trial {
@@ -58,7 +59,7 @@ fn single_steps(dice: &mut Dice, n: usize) -> Vec<Step> {
             steps.extend((0..n as u8).map(of_pivot));
         }
     }
-    steps.retain(|&step| step_row(step, n, LIMIT) == 0);
+    steps.retain(|&step| step_row(step, n, SERVICE) == 0);
     steps
 }
 

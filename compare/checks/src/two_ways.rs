@@ -1,7 +1,8 @@
-//! Demand 3, through the calls alone. Way A: the Pauli is applied to the start state, then the run is run.
+//! Demand 3, through the calls of one caller alone. Way A: the Pauli is applied to the start state, then the run is run.
 //! Way B: the Pauli is carried, the carried run is run, then the end Pauli is applied. The two ways have
 //! different entries past the start state and in the scratch.
 
+use crate::callers::Who;
 use crate::convert::{active, answer, ending, survey};
 use crate::lent::{Lender, Lent};
 use crate::patterns::{all_finite, filling_bytes, hex, hex_floats, same_number};
@@ -49,30 +50,30 @@ pub struct Parts {
     pub differing: usize,
 }
 
-type Check<T> = Result<T, String>;
+pub type Check<T> = Result<T, String>;
 
-fn ensure(holds: bool, what: &str) -> Check<()> {
+pub fn ensure(holds: bool, what: &str) -> Check<()> {
     if holds { Ok(()) } else { Err(what.to_string()) }
 }
 
-pub fn compare(lender: &Lender, dice: &mut Dice, trial: &Trial) -> Check<Outcome> {
+pub fn compare(lender: &Lender, dice: &mut Dice, who: Who, trial: &Trial) -> Check<Outcome> {
     let bytes = trial.run.bytes();
     let lent_run = lender.lend(dice, &bytes);
-    let seen = checked(trial, &lent_run)?;
-    let (carried, end, out) = carried(lender, dice, trial, &lent_run)?;
+    let seen = checked(who, trial, &lent_run)?;
+    let (carried, end, out) = carried(lender, dice, who, trial, &lent_run)?;
     let lengths = lengths(dice, seen);
 
     let contents = with_state(dice, &trial.state, lengths);
-    let a = way_a(lender, dice, trial, &lent_run, seen, &contents)?;
+    let a = way_a(lender, dice, who, trial, &lent_run, seen, &contents)?;
     ensure(lent_run[..] == bytes, "the lent run was written")?;
 
     let contents = with_state(dice, &trial.state, lengths);
     let mut b = Buffers::lend(lender, dice, &contents);
     let carried_run = &out[..bytes.len()];
-    ran(&mut b, carried_run, seen, &contents, "carried run")?;
+    ran(&mut b, who, carried_run, seen, &contents, "carried run")?;
     let finite_start = trial.state.iter().all(|part| all_finite(part));
-    let finite_steps = step_by_step(lender, dice, &carried, &contents, &b)?;
-    spelled_out(lender, dice, &carried, &contents, &b)?;
+    let finite_steps = step_by_step(lender, dice, who, &carried, &contents, &b)?;
+    spelled_out(lender, dice, who, &carried, &contents, &b)?;
     corrected(&mut b, end, seen.width)?;
 
     Ok(Outcome {
@@ -90,11 +91,11 @@ fn lengths(dice: &mut Dice, seen: Survey) -> [usize; 4] {
     [state, state, seen.scratch, seen.scratch].map(&mut some)
 }
 
-fn checked(trial: &Trial, lent_run: &[u8]) -> Check<Survey> {
+fn checked(who: Who, trial: &Trial, lent_run: &[u8]) -> Check<Survey> {
     let seen = trial.run.survey();
-    let checked = naribhush::check_run(lent_run);
+    let checked = who.check(lent_run);
     let right = checked == Ok(survey(seen)) && seen.steps == trial.run.steps.len();
-    ensure(right, &format!("check_run: {checked:?}, not {seen:?}"))?;
+    ensure(right, &format!("check: {checked:?}, not {seen:?}"))?;
     Ok(seen)
 }
 
@@ -102,18 +103,19 @@ fn checked(trial: &Trial, lent_run: &[u8]) -> Check<Survey> {
 fn carried<'a>(
     lender: &'a Lender,
     dice: &mut Dice,
+    who: Who,
     trial: &Trial,
     lent_run: &[u8],
 ) -> Check<(Run, ActivePauli, Lent<'a, u8>)> {
     let room = lent_run.len() + dice.below(4);
     let before = filling_bytes(dice, room);
     let mut out = lender.lend(dice, &before);
-    let answered = naribhush::carry_run(lent_run, active(trial.q), &mut out);
+    let answered = who.carry(lent_run, active(trial.q), &mut out);
 
     let (carried, end) = carry(&trial.run, trial.q);
     ensure(
         answered == Ok(active(end)),
-        &format!("carry_run: {answered:?}, not {end:?}"),
+        &format!("carry: {answered:?}, not {end:?}"),
     )?;
     let (written, past) = out.split_at(lent_run.len());
     ensure(written == carried.bytes(), "carried bytes not the model's")?;
@@ -122,13 +124,9 @@ fn carried<'a>(
         differs_in_flags_alone(&trial.run, lent_run, written),
         "carrying altered more than signs and branches",
     )?;
-    let (own, others) = (
-        naribhush::check_run(lent_run),
-        naribhush::check_run(written),
-    );
     ensure(
-        own == others,
-        "check_run of the carried run answers otherwise",
+        who.check(lent_run) == who.check(written),
+        "the check of the carried run answers otherwise",
     )?;
     Ok((carried, active(end), out))
 }
@@ -147,6 +145,7 @@ fn differs_in_flags_alone(run: &Run, bytes: &[u8], carried: &[u8]) -> bool {
 fn way_a<'a>(
     lender: &'a Lender,
     dice: &mut Dice,
+    who: Who,
     trial: &Trial,
     lent_run: &[u8],
     seen: Survey,
@@ -154,7 +153,7 @@ fn way_a<'a>(
 ) -> Check<Buffers<'a>> {
     let mut a = Buffers::lend(lender, dice, contents);
     corrected(&mut a, active(trial.q), trial.run.width)?;
-    ran(&mut a, lent_run, seen, contents, "run")?;
+    ran(&mut a, who, lent_run, seen, contents, "run")?;
     Ok(a)
 }
 
@@ -171,12 +170,13 @@ fn corrected(buffers: &mut Buffers, pauli: ActivePauli, width: usize) -> Check<(
 /// The run, its answer, and nothing written past what the check says that it needs.
 fn ran(
     buffers: &mut Buffers,
+    who: Who,
     bytes: &[u8],
     seen: Survey,
     before: &Contents,
     name: &str,
 ) -> Check<()> {
-    let answered = buffers.run(bytes);
+    let answered = who.run(bytes, buffers);
     let right = answered == answer(Ok(seen), ending);
     ensure(right, &format!("{name}: {answered:?}, not {seen:?}"))?;
     let state = 1 << seen.greatest;
@@ -189,6 +189,7 @@ fn ran(
 fn step_by_step(
     lender: &Lender,
     dice: &mut Dice,
+    who: Who,
     run: &Run,
     contents: &Contents,
     whole: &Buffers,
@@ -201,7 +202,7 @@ fn step_by_step(
             steps: vec![step],
         };
         width = step.width_after(width);
-        let answered = buffers.run(&lender.lend(dice, &one.bytes()));
+        let answered = who.run(&lender.lend(dice, &one.bytes()), &mut buffers);
         let expected = Ok(Ending { width, steps: 1 });
         ensure(answered == expected, &format!("one step: {answered:?}"))?;
         finite &= (0..2).all(|part| all_finite(&buffers.0[part][..1 << width]));
@@ -215,6 +216,7 @@ fn step_by_step(
 fn spelled_out(
     lender: &Lender,
     dice: &mut Dice,
+    who: Who,
     run: &Run,
     contents: &Contents,
     whole: &Buffers,
@@ -226,7 +228,7 @@ fn spelled_out(
     let width = run.width;
     let rotations = Run { width, steps };
     let mut buffers = Buffers::lend(lender, dice, contents);
-    let answered = buffers.run(&lender.lend(dice, &rotations.bytes()));
+    let answered = who.run(&lender.lend(dice, &rotations.bytes()), &mut buffers);
     let expected = answer(Ok(run.survey()), ending);
     let right = answered == expected && buffers.same_but_nan(&whole.contents());
     ensure(right, "rotations for quarter turns end otherwise")

@@ -1,7 +1,7 @@
 //! Carrying a Pauli through a run: the flags that flip, and the Pauli at the end.
 
 use crate::pauli::Pauli;
-use crate::run::{LIMIT, Refusal, Run, Step, read};
+use crate::run::{Caller, Refusal, Run, Step, read};
 
 /// Whether a projection of `m` takes `q` times `m`: `q` has, at the pivot, an X part where `m` has one, or
 /// else a Z part.
@@ -70,8 +70,13 @@ pub fn carry(run: &Run, q: Pauli) -> (Run, Pauli) {
 
 /// What carrying answers, with room for `room` bytes: the run's refusal, then 3, 4 and 16, which have no
 /// place; or the carried bytes and the end Pauli.
-pub fn carrying(bytes: &[u8], q: Pauli, room: usize) -> Result<(Vec<u8>, Pauli), Refusal> {
-    let run = read(bytes, LIMIT)?;
+pub fn carrying(
+    bytes: &[u8],
+    caller: Caller,
+    q: Pauli,
+    room: usize,
+) -> Result<(Vec<u8>, Pauli), Refusal> {
+    let run = read(bytes, caller)?;
     let tests = [
         (!q.is_pauli(), 3),
         (q.n != run.width, 4),
@@ -87,6 +92,7 @@ pub fn carrying(bytes: &[u8], q: Pauli, room: usize) -> Result<(Vec<u8>, Pauli),
 #[cfg(test)]
 mod tests {
     use super::*;
+    use crate::run::{EMULATOR, SERVICE};
 
     fn pauli(k: u8, x: u64, z: u64) -> Pauli {
         Pauli { n: 1, k, x, z }
@@ -157,8 +163,24 @@ mod tests {
         for (p, end) in [(two(0, 1, 0), two(3, 1, 3)), (two(0, 3, 0), q)] {
             let steps = vec![Step::QuarterTurn { pauli: p }];
             let bytes = Run { width: 2, steps }.bytes();
-            assert_eq!(carrying(&bytes, q, 27), Ok((bytes.clone(), end)));
-            assert_eq!(carrying(&bytes, q, 26), Err(Refusal::of(16)));
+            for caller in [SERVICE, EMULATOR] {
+                let told = Ok((bytes.clone(), end));
+                assert_eq!(carrying(&bytes, caller, q, 27), told);
+                assert_eq!(carrying(&bytes, caller, q, 26), Err(Refusal::of(16)));
+            }
+        }
+    }
+
+    /// A run that the emulator does not take is 21 before 3, 4 and 16.
+    #[test]
+    fn too_wide_for_the_emulator() {
+        let (width, steps) = (6, vec![Step::Promotion { c: 0, q: 0 }]);
+        let bytes = Run { width, steps }.bytes();
+        let q = Pauli::identity(6);
+        let told = Ok((bytes.clone(), Pauli::identity(7)));
+        assert_eq!(carrying(&bytes, SERVICE, q, 26), told);
+        for (q, room) in [(q, 26), (Pauli { k: 4, ..q }, 26), (Pauli::identity(7), 0)] {
+            assert_eq!(carrying(&bytes, EMULATOR, q, room), Err(Refusal::at(21, 4)));
         }
     }
 }

@@ -40,6 +40,34 @@ impl Refusal {
     }
 }
 
+/// Who calls: the widest state that it has, and the rows of a start over it and of a promotion at it.
+#[derive(Clone, Copy, Debug, PartialEq, Eq)]
+pub struct Caller {
+    pub widest: usize,
+    pub start_row: u8,
+    pub promotion_row: u8,
+}
+
+pub const SERVICE: Caller = Caller::within(LIMIT);
+
+/// 64 amplitudes. 21 takes the place of 15 and of the start limit in 14.
+pub const EMULATOR: Caller = Caller {
+    widest: 6,
+    start_row: 21,
+    promotion_row: 21,
+};
+
+impl Caller {
+    /// The service under another limit, by its own rows.
+    pub const fn within(widest: usize) -> Self {
+        Self {
+            widest,
+            start_row: 14,
+            promotion_row: 15,
+        }
+    }
+}
+
 /// A field between start and end. A float is kept as its 64 bits, so that any NaN pattern survives.
 #[derive(Clone, Copy, Debug, PartialEq, Eq)]
 pub enum Step {
@@ -290,9 +318,9 @@ fn step_of(tag: u8, body: &[u8], width: usize) -> Option<Step> {
     }
 }
 
-/// The row that refuses a step at this width: its kernel's, then 14 for sign and branch, 15 for the limit.
-/// Room for amplitudes is no matter of the step, so the kernels' rows are asked with buffers of any length.
-pub fn step_row(step: Step, width: usize, limit: usize) -> u8 {
+/// The row that refuses a step at this width: its kernel's, then 14 for sign and branch, the caller's own for a promotion at
+/// its widest. Room for amplitudes is no matter of the step, so the kernels' rows are asked with buffers of any length.
+pub fn step_row(step: Step, width: usize, caller: Caller) -> u8 {
     let float = f64::from_bits;
     let (kernel, own) = match step {
         Step::Rotation { pauli, sign, c, s } => (
@@ -301,7 +329,7 @@ pub fn step_row(step: Step, width: usize, limit: usize) -> u8 {
         ),
         Step::Promotion { c, q } => (
             rows::promotion(width, float(c), float(q), usize::MAX, usize::MAX),
-            (width >= limit, 15),
+            (width >= caller.widest, caller.promotion_row),
         ),
         Step::Projection {
             pauli,
@@ -333,12 +361,12 @@ pub struct Found {
 }
 
 /// The field whose tag stands at `at`, the state having `width` qubits there. A run that is too long is refused before its
-/// fields; no run leads to a width over the limit, so a field there stands in a wrong place.
-pub fn read_at(bytes: &[u8], at: usize, width: usize, limit: usize) -> Result<Found, Refusal> {
+/// fields; no run leads to a width over the caller's widest, so a field there stands in a wrong place.
+pub fn read_at(bytes: &[u8], at: usize, width: usize, caller: Caller) -> Result<Found, Refusal> {
     if bytes.len() > LONGEST {
         return Err(Refusal::at(14, 0));
     }
-    if width > limit {
+    if width > caller.widest {
         return Err(Refusal::at(14, at));
     }
     let Some((tag, body)) = field_at(bytes, at) else {
@@ -356,7 +384,7 @@ pub fn read_at(bytes: &[u8], at: usize, width: usize, limit: usize) -> Result<Fo
     let Some(step) = step_of(tag, body, width) else {
         return Err(Refusal::at(14, at));
     };
-    match step_row(step, width, limit) {
+    match step_row(step, width, caller) {
         0 => Ok(Found {
             step: Some(step),
             at: next,
@@ -366,8 +394,9 @@ pub fn read_at(bytes: &[u8], at: usize, width: usize, limit: usize) -> Result<Fo
     }
 }
 
-/// Reads a run whose widths may go up to `limit`: the run, or its first refusal in file order.
-pub fn read(bytes: &[u8], limit: usize) -> Result<Run, Refusal> {
+/// Reads a run for a caller: the run, or its first refusal in file order. A first field that is no start field is 14 for
+/// every caller; one that starts too wide is the caller's own row.
+pub fn read(bytes: &[u8], caller: Caller) -> Result<Run, Refusal> {
     if bytes.len() > LONGEST {
         return Err(Refusal::at(14, 0));
     }
@@ -375,12 +404,12 @@ pub fn read(bytes: &[u8], limit: usize) -> Result<Run, Refusal> {
         return Err(Refusal::at(14, 0));
     };
     let start = body[0] as usize;
-    if start > limit {
-        return Err(Refusal::at(14, 0));
+    if start > caller.widest {
+        return Err(Refusal::at(caller.start_row, 0));
     }
     let (mut at, mut width, mut steps) = (4, start, Vec::new());
     loop {
-        let found = read_at(bytes, at, width, limit)?;
+        let found = read_at(bytes, at, width, caller)?;
         (at, width) = (found.at, found.width);
         match found.step {
             Some(step) => steps.push(step),
@@ -397,8 +426,8 @@ pub fn read(bytes: &[u8], limit: usize) -> Result<Run, Refusal> {
 
 // --------------------------------------------------------------- the calls
 
-pub fn check_within(bytes: &[u8], limit: usize) -> Result<Survey, Refusal> {
-    read(bytes, limit).map(|run| run.survey())
+pub fn check(bytes: &[u8], caller: Caller) -> Result<Survey, Refusal> {
+    read(bytes, caller).map(|run| run.survey())
 }
 
 /// What running needs of the lengths of the state and the scratch: row 13.
@@ -408,8 +437,13 @@ pub fn lacks_room(seen: Survey, state: [usize; 2], scratch: [usize; 2]) -> bool 
 }
 
 /// What running answers: the run's refusal, then row 13.
-pub fn running(bytes: &[u8], state: [usize; 2], scratch: [usize; 2]) -> Result<Survey, Refusal> {
-    let seen = check_within(bytes, LIMIT)?;
+pub fn running(
+    bytes: &[u8],
+    caller: Caller,
+    state: [usize; 2],
+    scratch: [usize; 2],
+) -> Result<Survey, Refusal> {
+    let seen = check(bytes, caller)?;
     if lacks_room(seen, state, scratch) {
         return Err(Refusal::of(13));
     }
@@ -426,7 +460,7 @@ mod tests {
         let mut bytes = vec![1, 1, 0, 1, 5, 17, 0, 0, 1];
         bytes.extend([0; 15]);
         bytes.extend([6, 0, 0]);
-        let run = read(&bytes, LIMIT).expect("accepted");
+        let run = read(&bytes, SERVICE).expect("accepted");
         assert_eq!(run.bytes(), bytes);
         let pauli = Pauli {
             x: 1,
@@ -446,7 +480,7 @@ mod tests {
             bytes
         };
         let bytes = with(7, 0, 1, 17);
-        let run = read(&bytes, LIMIT).expect("accepted");
+        let run = read(&bytes, SERVICE).expect("accepted");
         assert_eq!(run.bytes(), bytes);
         let pauli = Pauli {
             x: 1,
@@ -472,10 +506,10 @@ mod tests {
             (with(8, 0, 1, 17), 14),
         ];
         for (bytes, row) in refused {
-            assert_eq!(read(&bytes, LIMIT), Err(Refusal::at(row, 4)));
+            assert_eq!(read(&bytes, SERVICE), Err(Refusal::at(row, 4)));
         }
         // Not Hermitian, it is a correction still.
-        assert!(read(&with(5, 1, 1, 17), LIMIT).is_ok());
+        assert!(read(&with(5, 1, 1, 17), SERVICE).is_ok());
     }
 
     #[test]
@@ -486,22 +520,116 @@ mod tests {
             at: 7,
             width: 1,
         };
-        assert_eq!(read_at(&bytes, 4, 1, 1), Ok(end));
-        assert_eq!(read_at(&bytes, 4, 1, 0), Err(Refusal::at(14, 4)));
+        let one = Caller::within(1);
+        let none = Caller::within(0);
+        assert_eq!(read_at(&bytes, 4, 1, one), Ok(end));
+        assert_eq!(read_at(&bytes, 4, 1, none), Err(Refusal::at(14, 4)));
         bytes.resize(LONGEST, 0);
-        assert_eq!(read_at(&bytes, 4, 1, 1), Ok(end));
+        assert_eq!(read_at(&bytes, 4, 1, one), Ok(end));
         bytes.push(0);
-        assert_eq!(read_at(&bytes, 4, 1, 1), Err(Refusal::at(14, 0)));
-        assert_eq!(read_at(&bytes, 4, 1, 0), Err(Refusal::at(14, 0)));
+        assert_eq!(read_at(&bytes, 4, 1, one), Err(Refusal::at(14, 0)));
+        assert_eq!(read_at(&bytes, 4, 1, none), Err(Refusal::at(14, 0)));
     }
 
     #[test]
     fn places() {
-        assert_eq!(read(&[], LIMIT), Err(Refusal::at(14, 0)));
-        assert_eq!(read(&[1, 1, 0, 13], LIMIT), Err(Refusal::at(14, 0)));
-        assert_eq!(read(&[1, 1, 0, 12], LIMIT), Err(Refusal::at(14, 4)));
-        assert_eq!(read(&[1, 1, 0, 0, 6], LIMIT), Err(Refusal::at(14, 4)));
+        assert_eq!(read(&[], SERVICE), Err(Refusal::at(14, 0)));
+        assert_eq!(read(&[1, 1, 0, 13], SERVICE), Err(Refusal::at(14, 0)));
+        assert_eq!(read(&[1, 1, 0, 12], SERVICE), Err(Refusal::at(14, 4)));
+        assert_eq!(read(&[1, 1, 0, 0, 6], SERVICE), Err(Refusal::at(14, 4)));
         let trailing = [1, 1, 0, 0, 6, 0, 0, 6];
-        assert_eq!(read(&trailing, LIMIT), Err(Refusal::at(14, 7)));
+        assert_eq!(read(&trailing, SERVICE), Err(Refusal::at(14, 7)));
+    }
+
+    /// A start field, these fields, an end field.
+    fn around(width: usize, fields: &[&[u8]]) -> Vec<u8> {
+        [start_field(width), fields.concat(), end_field()].concat()
+    }
+
+    fn promotion(c: f64) -> Vec<u8> {
+        let q = 0.5f64.to_bits();
+        Step::Promotion { c: c.to_bits(), q }.field()
+    }
+
+    fn width_for(caller: Caller, bytes: &[u8]) -> Result<usize, Refusal> {
+        check(bytes, caller).map(|seen| seen.width)
+    }
+
+    /// By hand: a start over 6 is 21 at 0 for the emulator, 14 over 12 for the service; what is no start field is 14 for both.
+    #[test]
+    fn starts() {
+        for width in 0..=255 {
+            let bytes = around(width, &[]);
+            let told = |most: usize, row: u8| match width <= most {
+                true => Ok(width),
+                false => Err(Refusal::at(row, 0)),
+            };
+            assert_eq!(width_for(EMULATOR, &bytes), told(6, 21));
+            assert_eq!(width_for(SERVICE, &bytes), told(12, 14));
+            assert_eq!(width_for(Caller::within(6), &bytes), told(6, 14));
+        }
+        let no_starts = [
+            field(0, &[7]),
+            field(2, &[7]),
+            field(1, &[]),
+            field(1, &[7, 7]),
+            vec![1, 1, 0],
+            vec![],
+            vec![1; LONGEST + 1],
+            [start_field(7), vec![0; LONGEST]].concat(),
+        ];
+        for bytes in no_starts {
+            for caller in [EMULATOR, SERVICE] {
+                assert_eq!(read(&bytes, caller), Err(Refusal::at(14, 0)));
+            }
+        }
+    }
+
+    /// By hand: a promotion at 6 is 21 for the emulator, behind 8, and 15 for the service under a limit of 6.
+    #[test]
+    fn promotions() {
+        let (good, bad, none) = (promotion(0.5), promotion(f64::NAN), field(0, &[]));
+        let at = |row, place| Err(Refusal::at(row, place));
+        let cases = [
+            (around(5, &[&good]), Ok(6), Ok(6), Ok(6)),
+            (around(6, &[&good]), Ok(7), at(21, 4), at(15, 4)),
+            (around(5, &[&good, &good]), Ok(7), at(21, 23), at(15, 23)),
+            (around(6, &[&good, &good]), Ok(8), at(21, 4), at(15, 4)),
+            (around(6, &[&bad]), at(8, 4), at(8, 4), at(8, 4)),
+            (around(6, &[&bad, &good]), at(8, 4), at(8, 4), at(8, 4)),
+            (around(6, &[&good, &bad]), at(8, 23), at(21, 4), at(15, 4)),
+            (around(6, &[&good, &none]), at(14, 23), at(21, 4), at(15, 4)),
+            (around(6, &[&none, &good]), at(14, 4), at(14, 4), at(14, 4)),
+            (around(12, &[&good]), at(15, 4), at(21, 0), at(14, 0)),
+        ];
+        for (bytes, service, emulator, limited) in cases {
+            assert_eq!(width_for(SERVICE, &bytes), service);
+            assert_eq!(width_for(EMULATOR, &bytes), emulator);
+            assert_eq!(width_for(Caller::within(6), &bytes), limited);
+        }
+    }
+
+    /// A cursor over the caller's widest is 14 for every caller.
+    #[test]
+    fn cursors_of_the_emulator() {
+        let bytes = around(5, &[&promotion(0.5)]);
+        let told = |width| read_at(&bytes, 4, width, EMULATOR).map(|found| found.width);
+        assert_eq!(told(5), Ok(6));
+        assert_eq!(told(6), Err(Refusal::at(21, 4)));
+        for width in [7, 12, 13] {
+            assert_eq!(told(width), Err(Refusal::at(14, 4)));
+        }
+    }
+
+    /// 13 behind the run's own rows, in 63 entries for six qubits.
+    #[test]
+    fn room_of_the_emulator() {
+        let six = around(6, &[]);
+        let seven = around(6, &[&promotion(0.5)]);
+        let ran = |bytes, re, im| running(bytes, EMULATOR, [re, im], [0, 0]).map(|seen| seen.width);
+        assert_eq!(ran(&six, 64, 64), Ok(6));
+        assert_eq!(ran(&six, 63, 64), Err(Refusal::of(13)));
+        assert_eq!(ran(&six, 64, 63), Err(Refusal::of(13)));
+        assert_eq!(ran(&seven, 0, 0), Err(Refusal::at(21, 4)));
     }
 }

@@ -269,6 +269,12 @@ unsafe extern "C" {
     fn naribhush_past(pauli: ActivePauli, step: GivenStep) -> Seen<Past>;
     fn naribhush_listing(run: *const u8, len: usize, out: *mut u8, out_len: usize) -> Seen<usize>;
     fn naribhush_serve(ledger: Ledger, run: *const u8, len: usize, re: *mut f64, re_len: usize, im: *mut f64, im_len: usize, scratch_re: *mut f64, scratch_re_len: usize, scratch_im: *mut f64, scratch_im_len: usize) -> SeenServed;
+
+    fn naribhush_read_emulated(run: *const u8, len: usize, at: usize, width: usize) -> Seen<Read>;
+    fn naribhush_check_emulated(run: *const u8, len: usize) -> Seen<Survey>;
+    fn naribhush_run_emulated(run: *const u8, len: usize, re: *mut f64, re_len: usize, im: *mut f64, im_len: usize, scratch_re: *mut f64, scratch_re_len: usize, scratch_im: *mut f64, scratch_im_len: usize) -> SeenEnding;
+    fn naribhush_carry_emulated(run: *const u8, len: usize, pauli: ActivePauli, out: *mut u8, out_len: usize) -> Seen<ActivePauli>;
+    fn naribhush_serve_emulated(ledger: Ledger, run: *const u8, len: usize, re: *mut f64, re_len: usize, im: *mut f64, im_len: usize, scratch_re: *mut f64, scratch_re_len: usize, scratch_im: *mut f64, scratch_im_len: usize) -> SeenServed;
 }
 
 // -------------------------------------------------------- bits and Paulis
@@ -516,7 +522,12 @@ pub fn check_within(run: &[u8], limit: usize) -> Answer<Survey> {
     unsafe { naribhush_check_within(run.as_ptr(), run.len(), limit) }.answer()
 }
 
-pub fn run_contiguous(
+#[rustfmt::skip]
+type RunCall = unsafe extern "C" fn(*const u8, usize, *mut f64, usize, *mut f64, usize, *mut f64, usize, *mut f64, usize) -> SeenEnding;
+
+/// The service's run, or the emulator's.
+fn ran(
+    call: RunCall,
     run: &[u8],
     re: &mut [f64],
     im: &mut [f64],
@@ -524,7 +535,7 @@ pub fn run_contiguous(
     scratch_im: &mut [f64],
 ) -> Answer<Ending> {
     let seen = unsafe {
-        naribhush_run(
+        call(
             run.as_ptr(),
             run.len(),
             re.as_mut_ptr(),
@@ -538,6 +549,16 @@ pub fn run_contiguous(
         )
     };
     seen.answer()
+}
+
+pub fn run_contiguous(
+    run: &[u8],
+    re: &mut [f64],
+    im: &mut [f64],
+    scratch_re: &mut [f64],
+    scratch_im: &mut [f64],
+) -> Answer<Ending> {
+    ran(naribhush_run, run, re, im, scratch_re, scratch_im)
 }
 
 pub fn carry_run(run: &[u8], pauli: ActivePauli, out: &mut [u8]) -> Answer<ActivePauli> {
@@ -557,8 +578,12 @@ pub fn list_run(run: &[u8], out: &mut [u8]) -> Answer<usize> {
     seen.answer()
 }
 
-/// The run's answer, and the ledger behind it.
-pub fn serve(
+#[rustfmt::skip]
+type ServeCall = unsafe extern "C" fn(Ledger, *const u8, usize, *mut f64, usize, *mut f64, usize, *mut f64, usize, *mut f64, usize) -> SeenServed;
+
+/// The service's run and the ledger behind it, or the emulator's.
+fn served(
+    call: ServeCall,
     ledger: Ledger,
     run: &[u8],
     re: &mut [f64],
@@ -567,7 +592,7 @@ pub fn serve(
     scratch_im: &mut [f64],
 ) -> (Answer<Ending>, Ledger) {
     let served = unsafe {
-        naribhush_serve(
+        call(
             ledger,
             run.as_ptr(),
             run.len(),
@@ -582,4 +607,64 @@ pub fn serve(
         )
     };
     (served.ending.answer(), served.ledger)
+}
+
+/// The run's answer, and the ledger behind it.
+pub fn serve(
+    ledger: Ledger,
+    run: &[u8],
+    re: &mut [f64],
+    im: &mut [f64],
+    scratch_re: &mut [f64],
+    scratch_im: &mut [f64],
+) -> (Answer<Ending>, Ledger) {
+    served(naribhush_serve, ledger, run, re, im, scratch_re, scratch_im)
+}
+
+// ------------------------------------------------------------ the emulator
+
+/// As `read`, within the emulator's widest state.
+pub fn read_emulated(run: &[u8], at: usize, width: usize) -> Answer<Read> {
+    unsafe { naribhush_read_emulated(run.as_ptr(), run.len(), at, width) }.answer()
+}
+
+pub fn check_emulated(run: &[u8]) -> Answer<Survey> {
+    unsafe { naribhush_check_emulated(run.as_ptr(), run.len()) }.answer()
+}
+
+pub fn run_emulated(
+    run: &[u8],
+    re: &mut [f64],
+    im: &mut [f64],
+    scratch_re: &mut [f64],
+    scratch_im: &mut [f64],
+) -> Answer<Ending> {
+    ran(naribhush_run_emulated, run, re, im, scratch_re, scratch_im)
+}
+
+pub fn carry_emulated(run: &[u8], pauli: ActivePauli, out: &mut [u8]) -> Answer<ActivePauli> {
+    let seen = unsafe {
+        naribhush_carry_emulated(run.as_ptr(), run.len(), pauli, out.as_mut_ptr(), out.len())
+    };
+    seen.answer()
+}
+
+/// The run's answer, and the ledger behind it, which counts none of these.
+pub fn serve_emulated(
+    ledger: Ledger,
+    run: &[u8],
+    re: &mut [f64],
+    im: &mut [f64],
+    scratch_re: &mut [f64],
+    scratch_im: &mut [f64],
+) -> (Answer<Ending>, Ledger) {
+    served(
+        naribhush_serve_emulated,
+        ledger,
+        run,
+        re,
+        im,
+        scratch_re,
+        scratch_im,
+    )
 }

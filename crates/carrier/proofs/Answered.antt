@@ -9,6 +9,7 @@ use Rattle.answers.specs.Answer.{Answer, valueOr}
 use Rattle.answers.specs.Answer.Answer.{accepted, refused, refusedAt}
 use Rattle.answers.specs.Row.{refusing, passing}
 use Rattle.paulilaws.specs.Pauli.{Pauli}
+use Rattle.framelaws.specs.Caller.{Caller}
 use Rattle.framelaws.specs.Carrying.{carriedSteps, endPauli}
 use Rattle.framelaws.specs.Survey.{Survey}
 use Rattle.runlaws.specs.Flags.{flagged}
@@ -21,63 +22,63 @@ use Rattle.carrier.specs.Ready.{runIn, Ready}
 
 -- ---- the check: it is the run's own answer
 
-module _ (limit : ℕ) (s : List ℕ) {width : ℕ} {v : Survey} (checked : checkingWithStart limit s ≡ accepted (record { start = width; survey = v })) where
-  from : From checkedRunOf (runOf limit s) (record { start = width; survey = v })
+module _ (caller : Caller) (s : List ℕ) {width : ℕ} {v : Survey} (checked : checkingWithStart caller s ≡ accepted (record { start = width; survey = v })) where
+  from : From checkedRunOf (runOf caller s) (record { start = width; survey = v })
   unfolding checkingWithStart
-  from = mapped-accepted checkedRunOf (runOf limit s) (record { start = width; survey = v }) checked
+  from = mapped-accepted checkedRunOf (runOf caller s) (record { start = width; survey = v }) checked
 
-  accepts : runOf limit s ≡ accepted (runIn limit s)
+  accepts : runOf caller s ≡ accepted (runIn caller s)
   unfolding runIn valueOr
   accepts = rw (from .was)
 
-  begins : width ≡ runIn limit s .width
+  begins : width ≡ runIn caller s .width
   unfolding runIn valueOr
   begins = rw (from .was) (ap (λ (k : CheckedRun). k .start) (from .is))
 
 -- ---- the answers
 
-module _ (limit : ℕ) (s : List ℕ) (Q : Pauli) (out : List ℕ) where
+module _ (caller : Caller) (s : List ℕ) (Q : Pauli) (out : List ℕ) where
   -- the answer a, and u left
   abbrev Carries : Answer Pauli → List ℕ → Type 0
-  Carries a u = (a ≡ carrying limit s Q out .answer) × (u ≡ carrying limit s Q out .lent)
+  Carries a u = (a ≡ carrying caller s Q out .answer) × (u ≡ carrying caller s Q out .lent)
 
-  pub run-refused : (n at : ℕ) → checkingWithStart limit s ≡ refusedAt n at → Carries (refusedAt n at) out
+  pub run-refused : (n at : ℕ) → checkingWithStart caller s ≡ refusedAt n at → Carries (refusedAt n at) out
   unfolding carrying onRun checkingWithStart
-  run-refused n at e = rw (mapped-refused checkedRunOf (runOf limit s) n at e) (refl, refl)
+  run-refused n at e = rw (mapped-refused checkedRunOf (runOf caller s) n at e) (refl, refl)
 
   -- of a run that is checked: its start width, and the row by it
-  module _ {width : ℕ} {v : Survey} (checked : checkingWithStart limit s ≡ accepted (record { start = width; survey = v })) {r : ℕ}
+  module _ {width : ℕ} {v : Survey} (checked : checkingWithStart caller s ≡ accepted (record { start = width; survey = v })) {r : ℕ}
       (is : r ≡ carryingRow Q width (length s) (length out)) where
-    row-is : r ≡ carryingRow Q (runIn limit s .width) (length s) (length out)
-    row-is = is ∙ ap (λ (n : ℕ). carryingRow Q n (length s) (length out)) (begins limit s checked)
+    row-is : r ≡ carryingRow Q (runIn caller s .width) (length s) (length out)
+    row-is = is ∙ ap (λ (n : ℕ). carryingRow Q n (length s) (length out)) (begins caller s checked)
 
     pub row-refused : (r ≡ 0 → ⊥) → Carries (refused r) out
     unfolding carrying onRun
     row-refused ne =
-        let R = runIn limit s in
-        rw (accepts limit s checked)
+        let R = runIn caller s in
+        rw (accepts caller s checked)
         (refusing (carryingRow Q (R .width) (length s) (length out)) (endPauli Q (R .steps)) (carriedRun Q R s ++ drop (length s) out) out r row-is ne)
 
     module _ (none : r ≡ 0) {copy : List ℕ} (copied : copy ≡ take (length s) s ++ drop (length s) out) where
       whole : copy ≡ s ++ drop (length s) out
       whole = copied ∙ rw (take-length s)
 
-      pub ready : Ready limit s Q copy
+      pub ready : Ready caller s Q copy
       ready =
           let known = carrying-passed Q width (length s) (length out) (sym is ∙ none) in
           record {
-            read = accepts limit s checked;
+            read = accepts caller s checked;
             admitted = known .0;
-            width = known .1 ∙ begins limit s checked;
+            width = known .1 ∙ begins caller s checked;
             room = rw whole (simp length-append (omega arith));
           }
 
-      pub done : (Q' : Pauli) (out' : List ℕ) → Q' ≡ endPauli Q (runIn limit s .steps) → out' ≡ flagged 4 (carriedSteps Q (runIn limit s .steps)) copy
+      pub done : (Q' : Pauli) (out' : List ℕ) → Q' ≡ endPauli Q (runIn caller s .steps) → out' ≡ flagged 4 (carriedSteps Q (runIn caller s .steps)) copy
           → Carries (accepted Q') out'
       unfolding carrying onRun
       done Q' out' ends writes =
-          let R = runIn limit s in
+          let R = runIn caller s in
           let written : out' ≡ carriedRun Q R s ++ drop (length s) out
-          = writes ∙ ap (flagged 4 (carriedSteps Q (R .steps))) whole ∙ carried-append limit s (drop (length s) out) Q R (accepts limit s checked) in
-          rw (accepts limit s checked, ends)
+          = writes ∙ ap (flagged 4 (carriedSteps Q (R .steps))) whole ∙ carried-append caller s (drop (length s) out) Q R (accepts caller s checked) in
+          rw (accepts caller s checked, ends)
           (passing (carryingRow Q (R .width) (length s) (length out)) (endPauli Q (R .steps)) (carriedRun Q R s ++ drop (length s) out) out out' (sym row-is ∙ none) written)

@@ -7,6 +7,7 @@ use lib.Ieee.{Float}
 use lib.ListN.{length}
 use Rattle.paulilaws.specs.Pauli.{Pauli}
 use Rattle.amplitudelaws.specs.Step.{Step}
+use Rattle.framelaws.specs.Caller.{Caller}
 use Rattle.framelaws.specs.Carrying.{carriedStep, passed, carriedSteps, endPauli}
 use Rattle.runlaws.specs.Flags.{fieldSize, flagAt, flagged}
 use Rattle.runlaws.specs.Flagged.{flag-length, carried-size}
@@ -15,33 +16,33 @@ use Rattle.runlaws.specs.Reading.{Cursor}
 use Rattle.carrier.specs.Ready.{runIn, Ready}
 
 -- At a cursor, with the Pauli and the output as they are there: the steps that are left take them to the end Pauli and to all flags.
-pub record Carrying (limit : ℕ) (s : List ℕ) (last : Pauli) (all : List ℕ) (c : Cursor) (Q : Pauli) (out : List ℕ) : Type 0 where
+pub record Carrying (caller : Caller) (s : List ℕ) (last : Pauli) (all : List ℕ) (c : Cursor) (Q : Pauli) (out : List ℕ) : Type 0 where
   pub steps : List (Step Float)
-  pub going : Going limit s c Q steps
+  pub going : Going caller s c Q steps
   pub ends : endPauli Q steps ≡ last
   pub writes : flagged (c .at) (carriedSteps Q steps) out ≡ all
   pub room : length s ≤ length out
 
 -- before the first step
-pub outset : (limit : ℕ) (s : List ℕ) (Q : Pauli) (out : List ℕ) → Ready limit s Q out
-    → let steps = runIn limit s .steps in
-    Carrying limit s (endPauli Q steps) (flagged 4 (carriedSteps Q steps) out) (record { at = 4; width = Q .n }) Q out
-outset limit s Q out r = record {
-  steps = runIn limit s .steps;
-  going = going-outset limit s (runIn limit s) Q (r .read) (r .admitted) (r .width);
+pub outset : (caller : Caller) (s : List ℕ) (Q : Pauli) (out : List ℕ) → Ready caller s Q out
+    → let steps = runIn caller s .steps in
+    Carrying caller s (endPauli Q steps) (flagged 4 (carriedSteps Q steps) out) (record { at = 4; width = Q .n }) Q out
+outset caller s Q out r = record {
+  steps = runIn caller s .steps;
+  going = going-outset caller s (runIn caller s) Q (r .read) (r .admitted) (r .width);
   ends = refl;
   writes = refl;
   room = r .room;
 }
 
-module _ {limit : ℕ} {s : List ℕ} {last : Pauli} {all : List ℕ} {c : Cursor} {Q : Pauli} {out : List ℕ}
-    (w : Carrying limit s last all c Q out) where
-  module _ {t : Step Float} {d : Cursor} (g : Gone limit s c Q (w .steps) t d) where
+module _ {caller : Caller} {s : List ℕ} {last : Pauli} {all : List ℕ} {c : Cursor} {Q : Pauli} {out : List ℕ}
+    (w : Carrying caller s last all c Q out) where
+  module _ {t : Step Float} {d : Cursor} (g : Gone caller s c Q (w .steps) t d) where
     -- the step's field is in the output
     pub step-room : c .at + fieldSize t ≤ length out
     step-room = omega (arith, g .read .next, g .read .inside, w .room)
 
-    turned : Carrying limit s last all d (passed Q t) (flagAt (c .at) (carriedStep Q t) out)
+    turned : Carrying caller s last all d (passed Q t) (flagAt (c .at) (carriedStep Q t) out)
     unfolding endPauli carriedSteps flagged
     turned =
         let one = flagAt (c .at) (carriedStep Q t) out in
@@ -57,7 +58,7 @@ module _ {limit : ℕ} {s : List ℕ} {last : Pauli} {all : List ℕ} {c : Curso
         }
 
     pub turn : (t' : Step Float) (Q' : Pauli) (out' : List ℕ) → t' ≡ carriedStep Q t → Q' ≡ passed Q t → out' ≡ flagAt (c .at) t' out
-        → Carrying limit s last all d Q' out'
+        → Carrying caller s last all d Q' out'
     turn t' Q' out' is passes writes = rw (writes, is, passes) turned
 
   pub all-passed : w .steps ≡ [] → (Q ≡ last) × (out ≡ all)

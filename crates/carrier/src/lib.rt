@@ -2,6 +2,7 @@
 // is written to a lent output with its signs and branches altered to suit, and the Pauli that is left at the
 // end is answered.
 use activepauli::ActivePauli;
+use callers::Caller;
 use checker::Checked;
 use passing::PassAnswer;
 use steps::Cursor;
@@ -11,10 +12,11 @@ ghost use mathlib.Core.Path.{_≡_};
 ghost use Prim.Native.Nat.{_+_, _≤_};
 ghost use lib.ListN.{length};
 ghost use Rattle.activepauli.specs.Active.{activeOf};
+ghost use Rattle.framelaws.specs.Caller.{service, emulator};
 ghost use Rattle.framelaws.specs.Carrying.{carriedSteps, endPauli};
-ghost use Rattle.runlaws.specs.Run.{widestRun};
 ghost use Rattle.runlaws.specs.Flags.{fieldSize, flagAt, flagged};
 ghost use Rattle.runlaws.specs.Calls.{carrying, carryingRow};
+ghost use Rattle.callers.specs.Meaning.{callerOf};
 ghost use Rattle.steps.specs.Meaning.{stepOf};
 ghost use Rattle.carrier.specs.Meaning.{carryAnswerOf};
 ghost use Rattle.carrier.specs.Ready.{runIn, Ready};
@@ -35,18 +37,25 @@ const BRANCH_AT: usize = 21;
 // A run of the service. The output holds the run with its new signs and branches, and what it held past the
 // run's length; on a refusal it stays as it was.
 pub fn carry_run(run: &[u8], pauli: ActivePauli, out: &mut [u8]) -> CarryAnswer
-    ensures { λ r. let did = carrying widestRun (now (run .entry)) (activeOf pauli) (now (out .entry)) in
+    ensures { λ r. let did = carrying service (now (run .entry)) (activeOf pauli) (now (out .entry)) in
         ⌜ (carryAnswerOf r ≡ did .answer) × (now (out .exit) ≡ did .lent) ⌝ }
 {
-    carry_within(run, pauli, out, checker::WIDEST_RUN)
+    carry_for(run, pauli, out, Caller::service())
 }
 
-// Under any limit on the width.
-fn carry_within(run: &[u8], pauli: ActivePauli, out: &mut [u8], limit: usize) -> CarryAnswer
-    ensures { λ r. let did = carrying limit (now (run .entry)) (activeOf pauli) (now (out .entry)) in
+// The same of the emulator.
+pub fn carry_emulated(run: &[u8], pauli: ActivePauli, out: &mut [u8]) -> CarryAnswer
+    ensures { λ r. let did = carrying emulator (now (run .entry)) (activeOf pauli) (now (out .entry)) in
         ⌜ (carryAnswerOf r ≡ did .answer) × (now (out .exit) ≡ did .lent) ⌝ }
 {
-    match checker::check_with_start(run, limit) {
+    carry_for(run, pauli, out, Caller::Emulator)
+}
+
+fn carry_for(run: &[u8], pauli: ActivePauli, out: &mut [u8], caller: Caller) -> CarryAnswer
+    ensures { λ r. let did = carrying (callerOf caller) (now (run .entry)) (activeOf pauli) (now (out .entry)) in
+        ⌜ (carryAnswerOf r ≡ did .answer) × (now (out .exit) ≡ did .lent) ⌝ }
+{
+    match checker::check_with_start(run, caller) {
         Checked::Refused(row, at) => CarryAnswer::RefusedAt(row, at),
         Checked::Run(width, _) => {
             let row = carrying_row(pauli, width, run.len(), out.len());
@@ -54,7 +63,7 @@ fn carry_within(run: &[u8], pauli: ActivePauli, out: &mut [u8], limit: usize) ->
                 return CarryAnswer::Refused(row);
             }
             bytes::copy(run, out);
-            let last = carry_steps(run, pauli, out, limit);
+            let last = carry_steps(run, pauli, out, caller);
             CarryAnswer::Carried(last)
         }
     }
@@ -75,9 +84,9 @@ fn carrying_row(pauli: ActivePauli, width: usize, size: usize, room: usize) -> u
 
 // Past each step of a run that was checked, of which `out` holds a copy: the Pauli at the end. What is no
 // step is the run's end.
-fn carry_steps(run: &[u8], pauli: ActivePauli, out: &mut [u8], limit: usize) -> ActivePauli
-    requires { ⌜ Ready limit (now run) (activeOf pauli) (now out) ⌝ }
-    ensures { λ r. let Q = activeOf pauli in let steps = runIn limit (now (run .entry)) .steps in
+fn carry_steps(run: &[u8], pauli: ActivePauli, out: &mut [u8], caller: Caller) -> ActivePauli
+    requires { ⌜ Ready (callerOf caller) (now run) (activeOf pauli) (now out) ⌝ }
+    ensures { λ r. let Q = activeOf pauli in let steps = runIn (callerOf caller) (now (run .entry)) .steps in
         ⌜ (activeOf r ≡ endPauli Q steps) × (now (out .exit) ≡ flagged 4 (carriedSteps Q steps) (now (out .entry))) ⌝ }
 {
     let mut cursor = Cursor {
@@ -86,7 +95,7 @@ fn carry_steps(run: &[u8], pauli: ActivePauli, out: &mut [u8], limit: usize) -> 
     };
     let mut held = pauli;
     loop {
-        let got = reader::read(run, cursor, limit);
+        let got = reader::read(run, cursor, caller);
         let Read::Step(step, next) = got else {
             break;
         };

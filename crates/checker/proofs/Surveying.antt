@@ -16,6 +16,7 @@ use Rattle.answers.specs.Answer.Answer.{accepted, refusedAt}
 use Rattle.answers.specs.Row.{row, first-passed}
 use Rattle.amplitudelaws.specs.Rows.{measurementRow}
 use Rattle.amplitudelaws.specs.Passed.{measurement-passed}
+use Rattle.framelaws.specs.Caller.{Caller}
 use Rattle.framelaws.specs.Allowed.{Placed}
 use Rattle.framelaws.specs.Rows.{stepRow, projectionStepRow}
 use Rattle.amplitudelaws.specs.Step.{Step, widthAfter}
@@ -35,23 +36,23 @@ use Rattle.steps.specs.Meaning.{cursorOf, readOf}
 use Rattle.checker.specs.Surveyed.{Measured, Surveyable, endedBy}
 
 -- v is the survey of the steps before the cursor, `all` that of the run; a step takes more bytes than one
-pub record Surveying (limit : ℕ) (s : List ℕ) (all : Answer Survey) (c : Cursor) (v : Survey) : Type 0 where
+pub record Surveying (caller : Caller) (s : List ℕ) (all : Answer Survey) (c : Cursor) (v : Survey) : Type 0 where
   pub rest : Answer (List (Step Float))
-  pub left : Left limit s c rest
+  pub left : Left caller s c rest
   pub same : mapped (surveyFrom v) rest ≡ all
   pub few : v .steps ≤ c .at
   pub width : v .width ≡ c .width
 
 -- no row refuses the step: a projection has a pivot
-measured : (limit n : ℕ) (t : Step Float) → Placed n t → stepRow limit n t ≡ 0 → Measured n t
+measured : (caller : Caller) (n : ℕ) (t : Step Float) → Placed n t → stepRow caller n t ≡ 0 → Measured n t
 unfolding stepRow projectionStepRow
-measured limit n (rotation P sign c s) at e = tt
-measured limit n (promotion c q) at e = tt
-measured limit n (projection M p v invnorm) at e =
+measured caller n (rotation P sign c s) at e = tt
+measured caller n (promotion c q) at e = tt
+measured caller n (projection M p v invnorm) at e =
     let passed = measurement-passed M p (not (finite invnorm)) (first-passed (measurementRow M p (not (finite invnorm))) (row (ltb 1 v) 14 0) e .0) in
     (omega (arith, at, passed .2 .inside), omega (arith, at, passed .0))
-measured limit n (correction P) at e = tt
-measured limit n (quarterTurn P) at e = tt
+measured caller n (correction P) at e = tt
+measured caller n (quarterTurn P) at e = tt
 
 -- at the end field, bytes past it or none
 end-answer : (v : Survey) (past : Bool) (at : ℕ)
@@ -60,37 +61,37 @@ unfolding mapped surveyFrom
 end-answer v true at = refl
 end-answer v false at = refl
 
-pub at-start : (limit : ℕ) (s : List ℕ) (n : ℕ) → 4 ≤ length s → length s ≤ mostBytes
-    → Surveying limit s (mapped (survey n) (walk limit (length s) s (record { at = 4; width = n }))) (record { at = 4; width = n }) (outset n)
+pub at-start : (caller : Caller) (s : List ℕ) (n : ℕ) → 4 ≤ length s → length s ≤ mostBytes
+    → Surveying caller s (mapped (survey n) (walk caller (length s) s (record { at = 4; width = n }))) (record { at = 4; width = n }) (outset n)
 unfolding survey
-at-start limit s n h short = record {
-  rest = walk limit (length s) s (record { at = 4; width = n });
-  left = left-outset limit s (record { at = 4; width = n }) short h;
+at-start caller s n h short = record {
+  rest = walk caller (length s) s (record { at = 4; width = n });
+  left = left-outset caller s (record { at = 4; width = n }) short h;
   same = refl;
   few = omega arith;
   width = refl;
 }
 
-module _ {limit : ℕ} {s : List ℕ} {all : Answer Survey} {c : Cursor} {v : Survey} (k : Surveying limit s all c v) where
-  module _ (t : Step Float) (d : Cursor) (e : readAt limit s c ≡ stepRead t d) where
+module _ {caller : Caller} {s : List ℕ} {all : Answer Survey} {c : Cursor} {v : Survey} (k : Surveying caller s all c v) where
+  module _ (t : Step Float) (d : Cursor) (e : readAt caller s c ≡ stepRead t d) where
     -- the cursor moves on
     pub moves : (c .at < d .at) × (d .at ≤ length s)
-    moves = let r = step-read limit s c d t e in (omega (arith, r .next, size-ge t), r .inside)
+    moves = let r = step-read caller s c d t e in (omega (arith, r .next, size-ge t), r .inside)
 
     pub surveyable : Surveyable v t (d .width)
     surveyable =
-        let r = step-read limit s c d t e in
+        let r = step-read caller s c d t e in
         let m = moves in
         record {
           few = omega (arith, k .few, k .left .short);
           behind = r .width ∙ ap (λ (n : ℕ). widthAfter n t) (sym (k .width));
-          measured = rw (k .width) (measured limit (c .width) t (r .placed) (r .row));
+          measured = rw (k .width) (measured caller (c .width) t (r .placed) (r .row));
         }
 
-    pub one-more : Surveying limit s all d (surveyed v t)
+    pub one-more : Surveying caller s all d (surveyed v t)
     unfolding surveyed surveyFrom
     one-more =
-        let r = step-read limit s c d t e in
+        let r = step-read caller s c d t e in
         let m = moves in
         let l = left-step (k .left) t d e in
         record {
@@ -105,7 +106,7 @@ module _ {limit : ℕ} {s : List ℕ} {all : Answer Survey} {c : Cursor} {v : Su
   answered rest e = sym (ap (mapped (surveyFrom v)) e) ∙ k .same
 
   -- what is no step ends the survey
-  pub no-step : (r : declared.Read) → readOf r ≡ readAt limit s c → OneOf (1 ∷ 2 ∷ []) (tagOf the-type r) → endedBy (length s) (readOf r) v ≡ all
+  pub no-step : (r : declared.Read) → readOf r ≡ readAt caller s c → OneOf (1 ∷ 2 ∷ []) (tagOf the-type r) → endedBy (length s) (readOf r) v ≡ all
   unfolding endedBy mapped ended
   no-step (read.Step t d) e h = absurd (⊎-elim (λ e. omega arith) (λ e. omega arith) h)
   no-step (read.End d) e h = end-answer v (ltb (d .at) (length s)) (d .at) ∙ answered _ (left-end (k .left) (cursorOf d) (sym e))

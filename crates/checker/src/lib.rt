@@ -2,6 +2,7 @@
 // width, the number of steps (the fields between start and end), the greatest width, and how many
 // amplitudes the largest state has that a projection with an X part leaves; or the first refusal, in
 // file order, with its place.
+use callers::Caller;
 use fields::StartAnswer;
 use steps::Cursor;
 use steps::Read;
@@ -9,11 +10,13 @@ use steps::Step;
 ghost use mathlib.Core.Path.{_≡_};
 ghost use Prim.Native.Nat.{_≤_, max};
 ghost use lib.ListN.{length};
+ghost use Rattle.framelaws.specs.Caller.{service, serviceWithin, emulator};
 ghost use Rattle.framelaws.specs.Survey.{survey, mixedAmplitudes};
 ghost use Rattle.framelaws.specs.Survey as frame;
 ghost use Rattle.runlaws.specs.Field.{mostBytes};
-ghost use Rattle.runlaws.specs.Run.{mapped, walk, widestRun};
+ghost use Rattle.runlaws.specs.Run.{mapped, walk};
 ghost use Rattle.runlaws.specs.Calls.{checking, checkingWithStart};
+ghost use Rattle.callers.specs.Meaning.{callerOf};
 ghost use Rattle.steps.specs.Meaning.{stepOf, readOf};
 ghost use Rattle.checker.specs.Surveyed.{Measured, Surveyable, endedBy};
 ghost use Rattle.checker.specs.Meaning.{surveyFieldsOf, checkAnswerOf, checkedOf};
@@ -37,45 +40,58 @@ pub enum Checked {
     Refused(u8, usize),
 }
 
-// The widest state of a run of the service.
-pub const WIDEST_RUN: usize = 12;
-
 // A run of the service.
 pub fn check_run(run: &[u8]) -> CheckAnswer
-    ensures { λ r. ⌜ checkAnswerOf r ≡ checking widestRun (now (run .entry)) ⌝ }
+    ensures { λ r. ⌜ checkAnswerOf r ≡ checking service (now (run .entry)) ⌝ }
 {
-    check_within(run, WIDEST_RUN)
+    check_for(run, Caller::service())
 }
 
-// A run under any limit on the width.
-pub fn check_within(run: &[u8], limit: usize) -> CheckAnswer
-    ensures { λ r. ⌜ checkAnswerOf r ≡ checking limit (now (run .entry)) ⌝ }
+// A run of the emulator.
+pub fn check_emulated(run: &[u8]) -> CheckAnswer
+    ensures { λ r. ⌜ checkAnswerOf r ≡ checking emulator (now (run .entry)) ⌝ }
 {
-    match check_with_start(run, limit) {
+    check_for(run, Caller::Emulator)
+}
+
+// A run under the service's rows and any limit on the width.
+pub fn check_within(run: &[u8], limit: usize) -> CheckAnswer
+    ensures { λ r. ⌜ checkAnswerOf r ≡ checking (serviceWithin limit) (now (run .entry)) ⌝ }
+{
+    check_for(run, Caller::Service(limit))
+}
+
+fn check_for(run: &[u8], caller: Caller) -> CheckAnswer
+    ensures { λ r. ⌜ checkAnswerOf r ≡ checking (callerOf caller) (now (run .entry)) ⌝ }
+{
+    match check_with_start(run, caller) {
         Checked::Refused(row, at) => CheckAnswer::Refused(row, at),
         Checked::Run(_, survey) => CheckAnswer::Run(survey),
     }
 }
 
-// The same, with the width that the run starts at.
-pub fn check_with_start(run: &[u8], limit: usize) -> Checked
-    ensures { λ r. ⌜ checkedOf r ≡ checkingWithStart limit (now (run .entry)) ⌝ }
+// A run of any caller's, with the width that it starts at.
+pub fn check_with_start(run: &[u8], caller: Caller) -> Checked
+    ensures { λ r. ⌜ checkedOf r ≡ checkingWithStart (callerOf caller) (now (run .entry)) ⌝ }
 {
-    let StartAnswer::Width(width) = fields::start(run, limit) else {
-        // Too long, or without a start field within the limit.
+    let StartAnswer::Width(width) = fields::start(run) else {
+        // Too long, or without a start field.
         return Checked::Refused(14, 0);
     };
-    match survey_steps(run, width, limit) {
+    if caller.widest() < width {
+        return Checked::Refused(caller.start_row(), 0);
+    }
+    match survey_steps(run, width, caller) {
         CheckAnswer::Refused(row, at) => Checked::Refused(row, at),
         CheckAnswer::Run(survey) => Checked::Run(width, survey),
     }
 }
 
 // The fields behind the start field, one after the other.
-fn survey_steps(run: &[u8], width: usize, limit: usize) -> CheckAnswer
+fn survey_steps(run: &[u8], width: usize, caller: Caller) -> CheckAnswer
     requires { ⌜ (4 ≤ length (now run)) × (length (now run) ≤ mostBytes) ⌝ }
     ensures { λ r. let s = now (run .entry) in
-        ⌜ checkAnswerOf r ≡ mapped (survey width) (walk limit (length s) s (record { at = 4; width = width })) ⌝ }
+        ⌜ checkAnswerOf r ≡ mapped (survey width) (walk (callerOf caller) (length s) s (record { at = 4; width = width })) ⌝ }
 {
     let mut cursor = Cursor {
         at: fields::START_BYTES,
@@ -88,7 +104,7 @@ fn survey_steps(run: &[u8], width: usize, limit: usize) -> CheckAnswer
         scratch: 0,
     };
     loop {
-        let got = reader::read(run, cursor, limit);
+        let got = reader::read(run, cursor, caller);
         let Read::Step(step, next) = got else {
             return ended(run.len(), got, survey);
         };

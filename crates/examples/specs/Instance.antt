@@ -29,6 +29,7 @@ use Rattle.amplitudelaws.specs.Correction.{corrected}
 use Rattle.amplitudelaws.specs.Rows.{correctionRow, rotationKernelRow, measurementRow, hermitianRow, widthRow, unitRow, promotedWidthRow, pivotRow, pivotMask, roomRow}
 use Rattle.amplitudelaws.specs.State.{State, point, written, roomFor, room}
 use Rattle.amplitudelaws.specs.Steps as leaves
+use Rattle.framelaws.specs.Caller.{service}
 use Rattle.framelaws.specs.Alike.{Finite}
 use Rattle.framelaws.specs.Allowed.{FiniteState, FiniteSteps}
 use Rattle.amplitudelaws.specs.Step.{Step, widthAfter}
@@ -40,7 +41,7 @@ use Rattle.framelaws.specs.Memory.{Memory, memoryOf, stepped, ran}
 use Rattle.runlaws.specs.Bytes.{number, floatAt, pauliAt}
 use Rattle.runlaws.specs.Field.{bodyLength, isWhole, fieldAt}
 use Rattle.runlaws.specs.Reading.{decoded, unless, judgedBy, judged, readField, readAt}
-use Rattle.runlaws.specs.Run.{Run, widestRun, mapped, ended, follow, walk, startWidth, begun, runOf}
+use Rattle.runlaws.specs.Run.{Run, mapped, ended, follow, walk, startWidth, begun, runOf}
 use Rattle.runlaws.specs.Flags.{fieldSize, flagAt, flagged}
 use Rattle.runlaws.specs.Calls.{Ending, Outcome, onRun, surveyOf, memoryRow, running, carryingRow, carriedRun, carrying}
 use Rattle.runlaws.specs.Frame.{SameNumbers, Agreeing, FiniteRun, fired, sent, Frame}
@@ -67,11 +68,11 @@ steps z x y mixing diagonal =
     (bytes.projection 0 0 1 0 diagonal
     (bytes.promotion (bytes.correction 0 1 0 rest)))))))))
 
-abbrev run : List ℕ
+abbrev pub run : List ℕ
 run = steps 0 0 0 0 1
 
 -- basis 0, with room for the two qubits of the greatest width, and other entries and another scratch
-abbrev here : Memory
+abbrev pub here : Memory
 here = memoryOf (one ∷ bytes.zero ∷ bytes.zero ∷ bytes.zero ∷ []) (bytes.zero ∷ bytes.zero ∷ bytes.zero ∷ bytes.zero ∷ []) (bytes.zero ∷ bytes.zero ∷ []) (bytes.zero ∷ bytes.zero ∷ [])
 
 abbrev there : Memory
@@ -94,21 +95,21 @@ abbrev output : List ℕ
 output = bytes.outputFor run
 
 -- the answer, and what is left in the output, whole
-outcome : carrying widestRun run Y output ≡ record { answer = accepted end; lent = bytes.filledWith carried }
+outcome : carrying service run Y output ≡ record { answer = accepted end; lent = bytes.filledWith carried }
 unfolding carrying onRun carryingRow carriedRun runOf begun startWidth mapped walk follow ended readAt readField judged judgedBy unless decoded fieldAt isWhole bodyLength number floatAt pauliAt fits hermitian coefficient ys flagged flagAt fieldSize carriedSteps carriedStep passed flipped anti product deciding meets absorbed widened turnedBy turnedPast endPauli raised dropped dropBit widthAfter stepRow rotationStepRow promotionStepRow projectionStepRow rotationKernelRow measurementRow hermitianRow widthRow unitRow promotedWidthRow pivotRow pivotMask inUnit row first answered left le neg ofBits digit overlap parity ones onesIn
 outcome = refl
 
-carries : carrying widestRun run Y output .answer ≡ accepted end
+carries : carrying service run Y output .answer ≡ accepted end
 carries = ap (λ (o : Outcome Pauli (List ℕ)). o .answer) outcome
 
-sent-is : sent widestRun run Y output ≡ carried
+sent-is : sent service run Y output ≡ carried
 sent-is = ap (λ (o : Outcome Pauli (List ℕ)). take (length run) (o .lent)) outcome
 
-runs-here : running widestRun run here .answer ≡ accepted ending
+pub runs-here : running service run here .answer ≡ accepted ending
 unfolding running onRun memoryRow surveyOf survey surveyFrom surveyed mixedAmplitudes roomFor room roomRow runOf begun startWidth mapped walk follow ended readAt readField judged judgedBy unless decoded fieldAt isWhole bodyLength number floatAt pauliAt fits hermitian coefficient ys widthAfter stepRow rotationStepRow promotionStepRow projectionStepRow rotationKernelRow measurementRow hermitianRow widthRow unitRow promotedWidthRow pivotRow pivotMask inUnit row first answered left le neg ofBits digit overlap parity ones onesIn
 runs-here = refl
 
-runs-there : running widestRun run there .answer ≡ accepted ending
+runs-there : running service run there .answer ≡ accepted ending
 unfolding running onRun memoryRow surveyOf survey surveyFrom surveyed mixedAmplitudes roomFor room roomRow runOf begun startWidth mapped walk follow ended readAt readField judged judgedBy unless decoded fieldAt isWhole bodyLength number floatAt pauliAt fits hermitian coefficient ys widthAfter stepRow rotationStepRow promotionStepRow projectionStepRow rotationKernelRow measurementRow hermitianRow widthRow unitRow promotedWidthRow pivotRow pivotMask inUnit row first answered left le neg ofBits digit overlap parity ones onesIn
 runs-there = refl
 
@@ -137,7 +138,7 @@ carriedList =
     ∷ correction (record { n = 1; k = 0; x = 1; z = 0 })
     ∷ []
 
-reads : runOf widestRun carried ≡ accepted (record { width = 1; steps = carriedList })
+reads : runOf service carried ≡ accepted (record { width = 1; steps = carriedList })
 unfolding runOf begun startWidth mapped walk follow ended readAt readField judged judgedBy unless decoded fieldAt isWhole bodyLength number floatAt pauliAt fits hermitian coefficient ys widthAfter stepRow rotationStepRow promotionStepRow projectionStepRow rotationKernelRow measurementRow hermitianRow widthRow unitRow promotedWidthRow pivotRow pivotMask inUnit row first answered left le neg ofBits digit overlap parity ones onesIn
 reads = refl
 
@@ -170,12 +171,12 @@ finite-steps : FiniteSteps 1 carriedList there
 unfolding stepped widthAfter leaves.rotation leaves.promotion leaves.projection leaves.correction leaves.scratchAfter leaves.scratchBy written point over rotated rotatedBy rotatedAlone rotatedWith rotationCoefficient promoted raisedQubit projected remaining remainingBy projectionCoefficient minus source corrected timesPower power times conjugate direction negated scale scaled mixed openBit overlap parity ones onesIn digit neg add sub mul ofBits
 finite-steps = (single _ (tt, tt) (tt, tt), (single _ (tt, tt) (tt, tt), (single _ (tt, tt) (tt, tt), (single _ (tt, tt) (tt, tt), (double _ (tt, tt) (tt, tt) (tt, tt) (tt, tt), (double _ (tt, tt) (tt, tt) (tt, tt) (tt, tt), (single _ (tt, tt) (tt, tt), (none _ (tt, tt), (single _ (tt, tt) (tt, tt), single _ (tt, tt) (tt, tt))))))))))
 
-finite-run : FiniteRun widestRun carried there
+finite-run : FiniteRun service carried there
 finite-run R e = subst (λ (r : Run). FiniteSteps (r .width) (r .steps) there) (accepted-same (sym reads ∙ e)) finite-steps
 
 -- ---- what comes of them
 
-met : Frame widestRun run output Y here there
+met : Frame service run output Y here there
 unfolding isAccepted
 met =
     frame-at-the-service .accepts run output Y here there
@@ -187,10 +188,10 @@ ends-at = sym (met .last) ∙ ap (λ (P : Pauli). P .n) (accepted-same (sym (met
 
 -- the same number in both parts of both amplitudes
 numbers : (b : ℕ) → b < 2 ^ 1
-    → SameNumbers (point (running widestRun run (fired Y here) .lent .state) b) (point (fired (met .end) (running widestRun (sent widestRun run Y output) there .lent) .state) b)
-numbers b h = met .same (subst (λ (t : List ℕ). FiniteRun widestRun t there) (sym sent-is) finite-run) b (rw ends-at h)
+    → SameNumbers (point (running service run (fired Y here) .lent .state) b) (point (fired (met .end) (running service (sent service run Y output) there .lent) .state) b)
+numbers b h = met .same (subst (λ (t : List ℕ). FiniteRun service t there) (sym sent-is) finite-run) b (rw ends-at h)
 
 -- and not all of them are zeros
-not-all-zeros : T (not (isZero (point (running widestRun run (fired Y here) .lent .state) 0 .re)))
+not-all-zeros : T (not (isZero (point (running service run (fired Y here) .lent .state) 0 .re)))
 unfolding running onRun memoryRow surveyOf survey surveyFrom surveyed mixedAmplitudes roomFor room roomRow runOf begun startWidth mapped walk follow ended readAt readField judged judgedBy unless decoded fieldAt isWhole bodyLength number floatAt pauliAt fits hermitian coefficient ys widthAfter stepRow rotationStepRow promotionStepRow projectionStepRow rotationKernelRow measurementRow hermitianRow widthRow unitRow promotedWidthRow pivotRow pivotMask inUnit row first answered left le neg ofBits digit overlap parity ones onesIn stepped leaves.rotation leaves.promotion leaves.projection leaves.correction leaves.scratchAfter leaves.scratchBy written point over rotated rotatedBy rotatedAlone rotatedWith rotationCoefficient promoted raisedQubit projected remaining remainingBy projectionCoefficient minus source corrected timesPower power times conjugate direction negated scale scaled mixed openBit add sub mul ran fired correctionRow
 not-all-zeros = tt

@@ -2,4 +2,5 @@ pub mod Runs
 pub mod Starred
 pub mod QuarterTurns
 pub mod Instance
+pub mod Emulator
 pub mod Seven

@@ -21,6 +21,7 @@ use Rattle.amplitudelaws.specs.Rows.{hermitianRow, widthRow, roomRow}
 use Rattle.amplitudelaws.specs.State.{point, written, roomFor, room}
 use Rattle.amplitudelaws.specs.Steps as leaves
 use Rattle.amplitudelaws.specs.Step.{widthAfter}
+use Rattle.framelaws.specs.Caller.{service}
 use Rattle.framelaws.specs.Rows.{stepRow}
 use Rattle.framelaws.specs.Carrying.{turnedBy, turnedPast, carriedStep, passed, carriedSteps, endPauli}
 use Rattle.framelaws.specs.Memory.{memoryOf, stepped, ran}
@@ -28,7 +29,7 @@ use Rattle.framelaws.specs.Survey.{mixedAmplitudes, surveyed, surveyFrom, surve
 use Rattle.runlaws.specs.Bytes.{number, pauliAt}
 use Rattle.runlaws.specs.Field.{bodyLength, isWhole, fieldAt}
 use Rattle.runlaws.specs.Reading.{decoded, unless, judgedBy, judged, readField, readAt}
-use Rattle.runlaws.specs.Run.{widestRun, mapped, ended, follow, walk, startWidth, begun, runOf}
+use Rattle.runlaws.specs.Run.{mapped, ended, follow, walk, startWidth, begun, runOf}
 use Rattle.runlaws.specs.Flags.{fieldSize, flagAt, flagged}
 use Rattle.runlaws.specs.Calls.{onRun, surveyOf, memoryRow, running, carryingRow, carriedRun, carrying}
 use Rattle.examples.specs.Runs.{zero, one, runFrom, quarterTurn}
@@ -63,7 +64,7 @@ abbrev -h : Float
 -- what a quarter turn leaves in re and im of a state that is real, no scratch being lent
 abbrev Leaves : List ℕ → List Float → List Float → List Float → Type 0
 Leaves run state re im =
-    running widestRun run (memoryOf state (zero ∷ zero ∷ []) [] [])
+    running service run (memoryOf state (zero ∷ zero ∷ []) [] [])
     ≡ record { answer = accepted (record { width = 1; steps = 1 }); lent = memoryOf re im [] [] }
 
 record QuarterTurns : Type 0 where
@@ -81,8 +82,8 @@ record QuarterTurns : Type 0 where
   x-turns-zero : Leaves xTurn (one ∷ zero ∷ []) (h ∷ zero ∷ []) (zero ∷ -h ∷ [])
   y-turns-zero : Leaves yTurn (one ∷ zero ∷ []) (h ∷ h ∷ []) (zero ∷ zero ∷ [])
   -- at the tag
-  not-hermitian : carrying widestRun izTurn (pauli X) [] .answer ≡ refusedAt 7 4
-  no-pauli : carrying widestRun otherTurn (pauli X) [] .answer ≡ refusedAt 3 4
+  not-hermitian : carrying service izTurn (pauli X) [] .answer ≡ refusedAt 7 4
+  no-pauli : carrying service otherTurn (pauli X) [] .answer ≡ refusedAt 3 4
 
 quarter-turns : QuarterTurns
 unfolding pauli valueOr readCall reading refuse letterOfByte withLetter letterAt digit put product overlap parity ones onesIn coefficient ys shown prefix body lettersFrom carrying running onRun memoryRow surveyOf survey surveyFrom surveyed mixedAmplitudes roomFor room roomRow carryingRow carriedRun runOf begun startWidth mapped walk follow ended readAt readField judged judgedBy unless decoded fieldAt isWhole bodyLength number pauliAt fits hermitian flagged flagAt fieldSize carriedSteps carriedStep passed anti turnedBy turnedPast endPauli raised widthAfter stepRow hermitianRow widthRow row first answered left stepped ran leaves.rotation written point over rotated rotatedBy rotatedAlone rotatedWith rotationCoefficient power times direction negated scale mixed add sub mul le neg ofBits

@@ -26,12 +26,13 @@ use Rattle.amplitudelaws.specs.Rows.{rotationKernelRow, measurementRow, hermiti
 use Rattle.amplitudelaws.specs.State.{stateOf, point, written}
 use Rattle.amplitudelaws.specs.Steps.{promotion}
 use Rattle.amplitudelaws.specs.Step.{widthAfter}
+use Rattle.framelaws.specs.Caller.{service}
 use Rattle.framelaws.specs.Rows.{stepRow, rotationStepRow, projectionStepRow}
 use Rattle.framelaws.specs.Carrying.{flipped, deciding, meets, absorbed, carriedStep, passed, carriedSteps, endPauli}
 use Rattle.runlaws.specs.Bytes.{number, floatAt, pauliAt}
 use Rattle.runlaws.specs.Field.{bodyLength, isWhole, fieldAt}
 use Rattle.runlaws.specs.Reading.{decoded, unless, judgedBy, judged, readField, readAt}
-use Rattle.runlaws.specs.Run.{widestRun, mapped, ended, follow, walk, startWidth, begun, runOf}
+use Rattle.runlaws.specs.Run.{mapped, ended, follow, walk, startWidth, begun, runOf}
 use Rattle.runlaws.specs.Flags.{fieldSize, flagAt, flagged}
 use Rattle.runlaws.specs.Calls.{onRun, carryingRow, carriedRun, carrying}
 use Rattle.examples.specs.Runs.{zero, one, runFrom, rotation, projection, outputFor, filledWith}
@@ -76,7 +77,7 @@ phase k = record { n = 0; k = k; x = 0; z = 0 }
 
 -- what carrying a Pauli through a run gives, into an output of other bytes, longer by one: the end Pauli, and the carried run in it, the last byte as it was
 abbrev pub Carries : List ℕ → Pauli → List ℕ → Pauli → Type 0
-Carries run Q carried end = carrying widestRun run Q (outputFor run) ≡ record { answer = accepted end; lent = filledWith carried }
+Carries run Q carried end = carrying service run Q (outputFor run) ≡ record { answer = accepted end; lent = filledWith carried }
 
 record Starred : Type 0 where
   open-bit-1-of-5 : opening 5 1 ≡ accepted 9

@@ -112,26 +112,20 @@ field-none at (some f) h = absurd (refusedAt-accepted h)
 
 -- ---- the start field, as it is answered
 
-module _ (limit : ℕ) where
-  pub start-cut : (at : ℕ) (f : Option Field) {n i : ℕ} → refusedAt n i ≡ headCall at f → refusedAt 14 0 ≡ startCall (startWidth limit f)
+pub start-cut : (at : ℕ) (f : Option Field) {n i : ℕ} → refusedAt n i ≡ headCall at f → refusedAt 14 0 ≡ startCall (startWidth f)
+unfolding startWidth startCall
+start-cut at f h = rw (field-none at f h)
+
+pub start-tag : (at : ℕ) (f : Option Field) (tag next : ℕ) → accepted (record { tag = tag; next = next }) ≡ headCall at f → (tag ≡ 1 → ⊥)
+    → refusedAt 14 0 ≡ startCall (startWidth f)
+unfolding startWidth startCall
+start-tag at f tag next h other = rw (field-of at f tag next (bodyCall f) h refl, ne-eqb tag 1 other)
+
+module _ (at : ℕ) (f : Option Field) (tag next : ℕ) (body : List ℕ) (h : accepted (record { tag = tag; next = next }) ≡ headCall at f) (b : body ≡ bodyCall f) (one : tag ≡ 1) where
+  pub start-size : (length body ≡ 1 → ⊥) → refusedAt 14 0 ≡ startCall (startWidth f)
   unfolding startWidth startCall
-  start-cut at f h = rw (field-none at f h)
+  start-size other = rw (field-of at f tag next body h b, eq-eqb tag 1 one, ne-eqb (length body) 1 other)
 
-  pub start-tag : (at : ℕ) (f : Option Field) (tag next : ℕ) → accepted (record { tag = tag; next = next }) ≡ headCall at f → (tag ≡ 1 → ⊥)
-      → refusedAt 14 0 ≡ startCall (startWidth limit f)
+  pub start-good : length body ≡ 1 → accepted (byteAt body 0) ≡ startCall (startWidth f)
   unfolding startWidth startCall
-  start-tag at f tag next h other = rw (field-of at f tag next (bodyCall f) h refl, ne-eqb tag 1 other)
-
-  module _ (at : ℕ) (f : Option Field) (tag next : ℕ) (body : List ℕ) (h : accepted (record { tag = tag; next = next }) ≡ headCall at f) (b : body ≡ bodyCall f) (one : tag ≡ 1) where
-    pub start-size : (length body ≡ 1 → ⊥) → refusedAt 14 0 ≡ startCall (startWidth limit f)
-    unfolding startWidth startCall
-    start-size other = rw (field-of at f tag next body h b, eq-eqb tag 1 one, ne-eqb (length body) 1 other)
-
-    module _ (size : length body ≡ 1) where
-      pub start-wide : limit < byteAt body 0 → refusedAt 14 0 ≡ startCall (startWidth limit f)
-      unfolding startWidth startCall
-      start-wide wide = rw (field-of at f tag next body h b, eq-eqb tag 1 one, eq-eqb (length body) 1 size, lt-leb (byteAt body 0) limit wide)
-
-      pub start-good : byteAt body 0 ≤ limit → accepted (byteAt body 0) ≡ startCall (startWidth limit f)
-      unfolding startWidth startCall
-      start-good within = rw (field-of at f tag next body h b, eq-eqb tag 1 one, eq-eqb (length body) 1 size, le-leb (byteAt body 0) limit within)
+  start-good size = rw (field-of at f tag next body h b, eq-eqb tag 1 one, eq-eqb (length body) 1 size)

@@ -64,9 +64,9 @@ pub fn body(run: &[u8], at: usize) -> &[u8]
     &run[at + HEAD_BYTES..next]
 }
 
-// The width that the first field gives: a start field within the limit; `NoStart` is 14 at 0.
-pub fn start(run: &[u8], limit: usize) -> StartAnswer
-    ensures { λ r. ⌜ startAnswerOf r ≡ startCall (startWidth limit (fieldIn (now (run .entry)) 0)) ⌝ }
+// The width that the first field gives if it is a start field, whatever width; `NoStart` is 14 at 0.
+pub fn start(run: &[u8]) -> StartAnswer
+    ensures { λ r. ⌜ startAnswerOf r ≡ startCall (startWidth (fieldIn (now (run .entry)) 0)) ⌝ }
 {
     let FieldAnswer::Whole { tag, next: _ } = field(run, 0) else {
         return StartAnswer::NoStart;
@@ -79,8 +79,5 @@ pub fn start(run: &[u8], limit: usize) -> StartAnswer
         return StartAnswer::NoStart;
     }
     let width = held[0] as usize;
-    if limit < width {
-        return StartAnswer::NoStart;
-    }
     StartAnswer::Width(width)
 }

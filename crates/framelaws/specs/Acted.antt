@@ -12,6 +12,7 @@ use Rattle.amplitudelaws.specs.Step.{Step, widthAfter, lastWidth}
 use Rattle.amplitudelaws.specs.Step.Step.{rotation, promotion, projection, correction, quarterTurn}
 use Rattle.amplitudelaws.specs.Acting.{acts, acted, Proper, Propers}
 use Rattle.amplitudelaws.specs.Near.{acted-near}
+use Rattle.framelaws.specs.Caller.{Caller}
 use Rattle.framelaws.specs.Rows.{stepRow}
 use Rattle.framelaws.specs.Survey.{survey}
 use Rattle.framelaws.specs.Memory.{Memory, stepped, ran}
@@ -22,17 +23,17 @@ use Rattle.framelaws.specs.Passing.{rotation-fitting, rotation-real, cor
 
 -- ---- a step that no row refuses is proper
 
-allowed-proper : (limit n : ℕ) (t : Step Float) → Placed n t → stepRow limit n t ≡ 0 → Proper n t
+allowed-proper : (caller : Caller) (n : ℕ) (t : Step Float) → Placed n t → stepRow caller n t ≡ 0 → Proper n t
 unfolding stepRow
-allowed-proper limit n (rotation P sign c s) h e = (h, rotation-fitting P sign c s e, rotation-real P sign c s e)
-allowed-proper limit n (promotion c q) h e = tt
-allowed-proper limit n (projection M p v invnorm) h e = (h, projection-measurable M p v invnorm e)
-allowed-proper limit n (correction P) h e = (h, correction-fitting P e)
-allowed-proper limit n (quarterTurn P) h e = (h, quarter-turn-fitting P e, quarter-turn-real P e)
+allowed-proper caller n (rotation P sign c s) h e = (h, rotation-fitting P sign c s e, rotation-real P sign c s e)
+allowed-proper caller n (promotion c q) h e = tt
+allowed-proper caller n (projection M p v invnorm) h e = (h, projection-measurable M p v invnorm e)
+allowed-proper caller n (correction P) h e = (h, correction-fitting P e)
+allowed-proper caller n (quarterTurn P) h e = (h, quarter-turn-fitting P e, quarter-turn-real P e)
 
-pub allowed-propers : (limit n : ℕ) (ts : List (Step Float)) → Allowed limit n ts → Propers n ts
-allowed-propers limit n [] a = tt
-allowed-propers limit n (t ∷ ts) (h, e, a) = (allowed-proper limit n t h e, allowed-propers limit (widthAfter n t) ts a)
+pub allowed-propers : (caller : Caller) (n : ℕ) (ts : List (Step Float)) → Allowed caller n ts → Propers n ts
+allowed-propers caller n [] a = tt
+allowed-propers caller n (t ∷ ts) (h, e, a) = (allowed-proper caller n t h e, allowed-propers caller (widthAfter n t) ts a)
 
 -- ---- one step
 
@@ -48,14 +49,14 @@ module _ (n : ℕ) (m : Memory) where
 
 -- ---- all of them
 
-pub ran-acted : (limit g : ℕ) (ts : List (Step Float)) (n : ℕ) (m : Memory) → Allowed limit n ts → room g (m .state) ≡ true → survey n ts .greatest ≤ g
+pub ran-acted : (caller : Caller) (g : ℕ) (ts : List (Step Float)) (n : ℕ) (m : Memory) → Allowed caller n ts → room g (m .state) ≡ true → survey n ts .greatest ≤ g
     → (b : ℕ) → b < 2 ^ lastWidth n ts → point (ran n ts m .state) b ≡ acted binary n ts (point (m .state)) b
 unfolding lastWidth ran acted
-ran-acted limit g [] n m a r wide b h = refl
-ran-acted limit g (t ∷ ts) n m (placed, row, a) r wide b h =
+ran-acted caller g [] n m a r wide b h = refl
+ran-acted caller g (t ∷ ts) n m (placed, row, a) r wide b h =
     let k : ℕ = widthAfter n t in
     let m′ : Memory = stepped n t m in
     let rest : survey k ts .greatest ≤ g = le-trans (survey-greatest-rest n t ts) wide in
-    ran-acted limit g ts k m′ a (room-kept g (stepped-sizes n t m .state) r) rest b h
-    ∙ acted-near binary k ts (allowed-propers limit k ts a) (point (m′ .state)) (acts binary n t (point (m .state)))
+    ran-acted caller g ts k m′ a (room-kept g (stepped-sizes n t m .state) r) rest b h
+    ∙ acted-near binary k ts (allowed-propers caller k ts a) (point (m′ .state)) (acts binary n t (point (m .state)))
     (stepped-acts n m t placed (room-under k g (m .state) (le-trans (survey-greatest k ts) rest) r)) b h

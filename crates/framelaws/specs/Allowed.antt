@@ -4,6 +4,7 @@ use mathlib.Core.List.{List, [], _∷_}
 use Prim.Native.Nat.{ℕ, _^_, _<_}
 use lib.Ieee.{Float}
 use Rattle.amplitudelaws.specs.State.{State, point}
+use Rattle.framelaws.specs.Caller.{Caller}
 use Rattle.framelaws.specs.Alike.{Finite}
 use Rattle.framelaws.specs.Memory.{Memory, stepped}
 use Rattle.framelaws.specs.Rows.{stepRow}
@@ -18,10 +19,10 @@ Placed n (projection M p v invnorm) = M .n ≡ n
 Placed n (correction P) = P .n ≡ n
 Placed n (quarterTurn P) = P .n ≡ n
 
--- each step at its width, under a limit on it
-abbrev pub Allowed : ℕ → ℕ → List (Step Float) → Type 0
-Allowed limit n [] = Unit
-Allowed limit n (t ∷ ts) = Placed n t × (stepRow limit n t ≡ 0) × Allowed limit (widthAfter n t) ts
+-- each step at its width
+abbrev pub Allowed : Caller → ℕ → List (Step Float) → Type 0
+Allowed caller n [] = Unit
+Allowed caller n (t ∷ ts) = Placed n t × (stepRow caller n t ≡ 0) × Allowed caller (widthAfter n t) ts
 
 -- every amplitude of the n qubits is finite
 pub record FiniteState (n : ℕ) (S : State) : Type 0 where

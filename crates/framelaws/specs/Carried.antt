@@ -11,6 +11,7 @@ use Rattle.bitlaws.specs.Digit.{mod-two}
 use Rattle.paulilaws.specs.Pauli.{Pauli, anti}
 use Rattle.amplitudelaws.specs.Step.{Step, widthAfter}
 use Rattle.amplitudelaws.specs.Step.Step.{rotation, promotion, projection, correction, quarterTurn}
+use Rattle.framelaws.specs.Caller.{Caller}
 use Rattle.framelaws.specs.Rows.{rotationStepRow, projectionStepRow, stepRow}
 use Rattle.framelaws.specs.Carrying.{flipped, carriedStep, passed, carriedSteps}
 use Rattle.framelaws.specs.Survey.{Survey, surveyed, surveyFrom, outset, survey, mixedAmplitudes}
@@ -60,10 +61,10 @@ flipped-row Q P flag = rw (le-ltb 1 (flipped Q P flag) (omega (arith, mod-two (f
 reflagged : (rows flag : ℕ) (Q P : Pauli) → first rows (row (ltb 1 flag) 14 0) ≡ 0 → first rows (row (ltb 1 (flipped Q P flag)) 14 0) ≡ 0
 reflagged rows flag Q P e = first-none rows _ (first-passed rows (row (ltb 1 flag) 14 0) e .0) ∙ flipped-row Q P flag
 
-pub row-carried : (limit n : ℕ) (Q : Pauli) (t : Step Float) → stepRow limit n t ≡ 0 → stepRow limit n (carriedStep Q t) ≡ 0
+pub row-carried : (caller : Caller) (n : ℕ) (Q : Pauli) (t : Step Float) → stepRow caller n t ≡ 0 → stepRow caller n (carriedStep Q t) ≡ 0
 unfolding stepRow rotationStepRow projectionStepRow carriedStep
-row-carried limit n Q (rotation P sign c s) e = reflagged _ sign Q P e
-row-carried limit n Q (promotion c q) e = e
-row-carried limit n Q (projection M p v invnorm) e = reflagged _ v Q M e
-row-carried limit n Q (correction P) e = e
-row-carried limit n Q (quarterTurn P) e = e
+row-carried caller n Q (rotation P sign c s) e = reflagged _ sign Q P e
+row-carried caller n Q (promotion c q) e = e
+row-carried caller n Q (projection M p v invnorm) e = reflagged _ v Q M e
+row-carried caller n Q (correction P) e = e
+row-carried caller n Q (quarterTurn P) e = e

@@ -12,6 +12,7 @@ use Rattle.paulilaws.specs.Fitting.{Fitting, product-fitting}
 use Rattle.paulilaws.specs.Frame.{raised, dropped, raised-fitting}
 use Rattle.amplitudelaws.specs.Step.{Step, widthAfter, lastWidth}
 use Rattle.amplitudelaws.specs.Step.Step.{rotation, promotion, projection, correction, quarterTurn}
+use Rattle.framelaws.specs.Caller.{Caller}
 use Rattle.framelaws.specs.Rows.{stepRow}
 use Rattle.framelaws.specs.Carrying.{absorbed, widened, turnedBy, turnedPast, passed, endPauli}
 use Rattle.framelaws.specs.Allowed.{Placed, Allowed}
@@ -67,41 +68,41 @@ module _ (P Q : Pauli) (e : P .n ≡ Q .n) where
 
 -- ---- past a step, and past all
 
--- a Pauli on a state of n qubits, n within the limit
-pub record Fitted (limit n : ℕ) (Q : Pauli) : Type 0 where
+-- a Pauli on a state of n qubits, which the caller may have
+pub record Fitted (caller : Caller) (n : ℕ) (Q : Pauli) : Type 0 where
   pub fitting : Fitting Q
   pub width : Q .n ≡ n
-  pub within : n ≤ limit
+  pub within : n ≤ caller .widest
 
-pub fitting-passed : (limit n : ℕ) (Q : Pauli) (t : Step Float) → n ≤ limit → Placed n t → stepRow limit n t ≡ 0 → Fitting Q → Q .n ≡ n
-    → Fitted limit (widthAfter n t) (passed Q t)
+pub fitting-passed : (caller : Caller) (n : ℕ) (Q : Pauli) (t : Step Float) → n ≤ caller .widest → Placed n t → stepRow caller n t ≡ 0 → Fitting Q → Q .n ≡ n
+    → Fitted caller (widthAfter n t) (passed Q t)
 unfolding stepRow widthAfter passed widened dropped raised turnedPast
-fitting-passed limit n Q (rotation P sign c s) within h e f width = record { fitting = f; width = width; within = within }
-fitting-passed limit n Q (promotion c q) within h e f width =
-    let below : n < limit = promotion-below limit n c q e in
+fitting-passed caller n Q (rotation P sign c s) within h e f width = record { fitting = f; width = width; within = within }
+fitting-passed caller n Q (promotion c q) within h e f width =
+    let below : n < caller .widest = promotion-below caller n c q e in
     record { fitting = widened-fitting f; width = ap suc width; within = below }
-fitting-passed limit n Q (projection M p v invnorm) within h e f width =
+fitting-passed caller n Q (projection M p v invnorm) within h e f width =
     let measurable = projection-measurable M p v invnorm e in
     record {
       fitting = remaining-fitting M _ Q _ p (omega (arith, measurable .inside)) (h ∙ sym width) (measurable .fitting) f;
       width = ap (λ (k : ℕ). k - 1) (absorbed-width M _ Q _ ∙ width);
       within = omega arith;
     }
-fitting-passed limit n Q (correction P) within h e f width = record {
+fitting-passed caller n Q (correction P) within h e f width = record {
   fitting = raised-fitting _ f;
   width = width;
   within = within;
 }
-fitting-passed limit n Q (quarterTurn P) within h e f width = record {
+fitting-passed caller n Q (quarterTurn P) within h e f width = record {
   fitting = turned-fitting P Q (h ∙ sym width) _ (quarter-turn-fitting P e) f;
   width = turned-width P Q (h ∙ sym width) _ ∙ width;
   within = within;
 }
 
-pub fitting-end : (limit n : ℕ) (Q : Pauli) (ts : List (Step Float)) → n ≤ limit → Allowed limit n ts → Fitting Q → Q .n ≡ n
-    → Fitted limit (lastWidth n ts) (endPauli Q ts)
+pub fitting-end : (caller : Caller) (n : ℕ) (Q : Pauli) (ts : List (Step Float)) → n ≤ caller .widest → Allowed caller n ts → Fitting Q → Q .n ≡ n
+    → Fitted caller (lastWidth n ts) (endPauli Q ts)
 unfolding lastWidth endPauli
-fitting-end limit n Q [] within a f width = record { fitting = f; width = width; within = within }
-fitting-end limit n Q (t ∷ ts) within a f width =
-    let next = fitting-passed limit n Q t within (a .0) (a .1) f width in
-    fitting-end limit (widthAfter n t) (passed Q t) ts (next .within) (a .2) (next .fitting) (next .width)
+fitting-end caller n Q [] within a f width = record { fitting = f; width = width; within = within }
+fitting-end caller n Q (t ∷ ts) within a f width =
+    let next = fitting-passed caller n Q t within (a .0) (a .1) f width in
+    fitting-end caller (widthAfter n t) (passed Q t) ts (next .within) (a .2) (next .fitting) (next .width)

@@ -1,3 +1,4 @@
+pub mod Caller
 pub mod Rows
 pub mod Carrying
 pub mod Survey
@@ -21,6 +22,7 @@ pub mod Kept
 pub mod Surveyed
 pub mod Carried
 pub mod Passing
+pub mod CallerRows
 pub mod Fitted
 pub mod PassRow
 pub mod Suited

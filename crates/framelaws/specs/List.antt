@@ -16,6 +16,7 @@ use Rattle.amplitudelaws.specs.State.{State, point, written, room}
 use Rattle.amplitudelaws.specs.Steps as leaves
 use Rattle.amplitudelaws.specs.Step.{Step, widthAfter, lastWidth}
 use Rattle.amplitudelaws.specs.Step.Step.{rotation, promotion, projection, correction, quarterTurn}
+use Rattle.framelaws.specs.Caller.{Caller}
 use Rattle.framelaws.specs.Rows.{stepRow}
 use Rattle.framelaws.specs.Carrying.{carriedStep, passed, carriedSteps, endPauli}
 use Rattle.framelaws.specs.Survey.{survey}
@@ -44,10 +45,10 @@ module _ (n : ℕ) (Q : Pauli) (F G : ℕ → Point) (S U : State) (hx : Q .x < 
 
 -- ---- one step
 
-module _ (limit n : ℕ) (Q : Pauli) (m u : Memory) (width : Q .n ≡ n) (fits : Fitting Q) (finite : FiniteState n (u .state))
+module _ (caller : Caller) (n : ℕ) (Q : Pauli) (m u : Memory) (width : Q .n ≡ n) (fits : Fitting Q) (finite : FiniteState n (u .state))
     (w : Framed n Q (point (m .state)) (point (u .state))) where
   -- whatever the two scratches hold
-  pub past-step : (t : Step Float) → Placed n t → stepRow limit n t ≡ 0 → passed Q t .x < 2 ^ widthAfter n t
+  pub past-step : (t : Step Float) → Placed n t → stepRow caller n t ≡ 0 → passed Q t .x < 2 ^ widthAfter n t
       → room (widthAfter n t) (m .state) ≡ true → room (widthAfter n t) (u .state) ≡ true
       → Framed (widthAfter n t) (passed Q t) (point (stepped n t m .state)) (point (stepped n (carriedStep Q t) u .state))
   unfolding stepRow widthAfter passed carriedStep stepped leaves.rotation leaves.promotion leaves.projection leaves.correction
@@ -73,25 +74,25 @@ module _ (limit n : ℕ) (Q : Pauli) (m u : Memory) (width : Q .n ≡ n) (fits :
 
 -- ---- all of them
 
-framed-ran : (limit g : ℕ) (ts : List (Step Float)) (n : ℕ) (Q : Pauli) (m u : Memory) → n ≤ limit → Allowed limit n ts
+framed-ran : (caller : Caller) (g : ℕ) (ts : List (Step Float)) (n : ℕ) (Q : Pauli) (m u : Memory) → n ≤ caller .widest → Allowed caller n ts
     → Fitting Q → Q .n ≡ n → room g (m .state) ≡ true → room g (u .state) ≡ true → survey n ts .greatest ≤ g → FiniteSteps n (carriedSteps Q ts) u
     → Framed n Q (point (m .state)) (point (u .state))
     → Framed (lastWidth n ts) (endPauli Q ts) (point (ran n ts m .state)) (point (ran n (carriedSteps Q ts) u .state))
 unfolding lastWidth carriedSteps endPauli ran
-framed-ran limit g [] n Q m u within a f width rm ru wide finite w = w
-framed-ran limit g (t ∷ ts) n Q m u within a f width rm ru wide finite w =
+framed-ran caller g [] n Q m u within a f width rm ru wide finite w = w
+framed-ran caller g (t ∷ ts) n Q m u within a f width rm ru wide finite w =
     let k : ℕ = widthAfter n t in
-    let next = fitting-passed limit n Q t within (a .0) (a .1) f width in
+    let next = fitting-passed caller n Q t within (a .0) (a .1) f width in
     let rest : survey k ts .greatest ≤ g = le-trans (survey-greatest-rest n t ts) wide in
     let under : k ≤ g = le-trans (survey-greatest k ts) rest in
-    let framed = past-step limit n Q m u width f (finite .0) w t (a .0) (a .1) (rw (next .width) at (next .fitting .xs))
+    let framed = past-step caller n Q m u width f (finite .0) w t (a .0) (a .1) (rw (next .width) at (next .fitting .xs))
     (room-under k g (m .state) under rm) (room-under k g (u .state) under ru) in
     let P : Pauli = passed Q t in
     let m′ : Memory = stepped n t m in
     let u′ : Memory = stepped n (carriedStep Q t) u in
     subst (λ (j : ℕ). Framed (lastWidth k ts) (endPauli P ts) (point (ran k ts m′ .state)) (point (ran j (carriedSteps P ts) u′ .state)))
     (sym (after-carried n Q t))
-    (framed-ran limit g ts k P m′ u′ (next .within) (a .2) (next .fitting) (next .width)
+    (framed-ran caller g ts k P m′ u′ (next .within) (a .2) (next .fitting) (next .width)
     (room-kept g (stepped-sizes n t m .state) rm) (room-kept g (stepped-sizes n (carriedStep Q t) u .state) ru) rest
     (rw (after-carried n Q t) at (finite .1)) framed)
 
@@ -102,8 +103,8 @@ pub point-correction : (n : ℕ) (P : Pauli) (S : State) → P .n ≡ n → room
 unfolding leaves.correction
 point-correction n P S e r b hb = point-written (P .n) n (corrected binary P (point S)) S e r b hb
 
-module _ (limit g : ℕ) (ts : List (Step Float)) (n : ℕ) (Q : Pauli) (m u : Memory) (within : n ≤ limit)
-    (allowed : Allowed limit n ts) (fits : Fitting Q) (width : Q .n ≡ n) (rm : room g (m .state) ≡ true) (ru : room g (u .state) ≡ true)
+module _ (caller : Caller) (g : ℕ) (ts : List (Step Float)) (n : ℕ) (Q : Pauli) (m u : Memory) (within : n ≤ caller .widest)
+    (allowed : Allowed caller n ts) (fits : Fitting Q) (width : Q .n ≡ n) (rm : room g (m .state) ≡ true) (ru : room g (u .state) ≡ true)
     (wide : survey n ts .greatest ≤ g) (finite : FiniteSteps n (carriedSteps Q ts) u) (agree : (b : ℕ) → b < 2 ^ n → point (m .state) b ≡ point (u .state) b) where
   framed-first : Framed n Q (point (leaves.correction Q (m .state))) (point (u .state))
   framed-first =
@@ -121,12 +122,12 @@ module _ (limit g : ℕ) (ts : List (Step Float)) (n : ℕ) (Q : Pauli) (m u : M
       (point (leaves.correction (endPauli Q ts) (ran n (carriedSteps Q ts) u .state)) b)
   frame-over-steps b hb =
       let last : ℕ = lastWidth n ts in
-      let ending = fitting-end limit n Q ts within allowed fits width in
+      let ending = fitting-end caller n Q ts within allowed fits width in
       let m′ : Memory = record { state = leaves.correction Q (m .state); scratch = m .scratch } in
       let U : State = ran n (carriedSteps Q ts) u .state in
       let enough : room last U ≡ true
       = room-under last g U (le-trans (survey-greatest-last n ts) wide) (room-kept g (ran-sizes n (carriedSteps Q ts) u .state) ru) in
       rw (point-correction last (endPauli Q ts) U (ending .width) enough b hb)
       (corrected-framed last (endPauli Q ts) (rw (ending .width) at (ending .fitting .xs))
-      (framed-ran limit g ts n Q m′ u within allowed fits width room-first ru wide finite framed-first)
+      (framed-ran caller g ts n Q m′ u within allowed fits width room-first ru wide finite framed-first)
       b hb)

@@ -3,7 +3,7 @@ use mathlib.Core.Path.{_≡_}
 use mathlib.Core.Bool.{true, not}
 use Prim.Native.Nat.{ℕ, _≤_, _<_}
 use native.Mathlib.Omega.{arith}
-use lib.Dec.{leb, ltb, lit<}
+use lib.Dec.{leb, ltb}
 use lib.Ieee.{Float}
 use lib.Ieee.Scale.{finite}
 use borrow.Author.Tests.{leb-false}
@@ -15,6 +15,7 @@ use Rattle.amplitudelaws.specs.Passed.{width-passed, hermitian-passed, hermitia
 use Rattle.amplitudelaws.specs.Rows.{widthRow, hermitianRow, unitRow, rotationKernelRow, measurementRow, promotedWidthRow, widestKernel}
 use Rattle.amplitudelaws.specs.Step.{Step, widthAfter}
 use Rattle.amplitudelaws.specs.Step.Step.{rotation, promotion, projection, correction, quarterTurn}
+use Rattle.framelaws.specs.Caller.{Caller}
 use Rattle.framelaws.specs.Rows.{stepRow, rotationStepRow, promotionStepRow, projectionStepRow}
 
 module _ (P : Pauli) (sign : ℕ) (c s : Float) where
@@ -28,12 +29,12 @@ module _ (P : Pauli) (sign : ℕ) (c s : Float) where
       let kernel = first-passed (rotationKernelRow P c s) (row (ltb 1 sign) 14 0) e .0 in
       hermitian-real widestKernel P (first-passed (hermitianRow widestKernel P) (unitRow c s) kernel .0)
 
-pub promotion-below : (limit n : ℕ) (c q : Float) → promotionStepRow limit n c q ≡ 0 → n < limit
+pub promotion-below : (caller : Caller) (n : ℕ) (c q : Float) → promotionStepRow caller n c q ≡ 0 → n < caller .widest
 unfolding promotionStepRow
-promotion-below limit n c q e =
-    let floats = first-passed (promotedWidthRow n) (first (unitRow c q) (row (leb limit n) 15 0)) e .1 in
-    let fifteen = first-passed (unitRow c q) (row (leb limit n) 15 0) floats .1 in
-    leb-false limit n (row-passed (leb limit n) 15 0 (lit< tt) fifteen .0)
+promotion-below caller n c q e =
+    let floats = first-passed (promotedWidthRow n) (first (unitRow c q) (row (leb (caller .widest) n) (caller .promotionRow) 0)) e .1 in
+    let wide = first-passed (unitRow c q) (row (leb (caller .widest) n) (caller .promotionRow) 0) floats .1 in
+    leb-false (caller .widest) n (row-passed (leb (caller .widest) n) (caller .promotionRow) 0 (caller .refuses) wide .0)
 
 pub correction-fitting : (P : Pauli) → widthRow widestKernel P ≡ 0 → Fitting P
 correction-fitting P e = width-passed widestKernel P e .0
@@ -58,11 +59,11 @@ projection-measurable M p v invnorm e =
       has = pivot .has;
     }
 
--- a step keeps the width within the limit
-pub width-kept : (limit n : ℕ) (t : Step Float) → n ≤ limit → stepRow limit n t ≡ 0 → widthAfter n t ≤ limit
+-- a step keeps the width within the caller's greatest
+pub width-kept : (caller : Caller) (n : ℕ) (t : Step Float) → n ≤ caller .widest → stepRow caller n t ≡ 0 → widthAfter n t ≤ caller .widest
 unfolding widthAfter stepRow
-width-kept limit n (rotation P sign c s) h e = h
-width-kept limit n (promotion c q) h e = promotion-below limit n c q e
-width-kept limit n (projection M p v invnorm) h e = omega arith
-width-kept limit n (correction P) h e = h
-width-kept limit n (quarterTurn P) h e = h
+width-kept caller n (rotation P sign c s) h e = h
+width-kept caller n (promotion c q) h e = promotion-below caller n c q e
+width-kept caller n (projection M p v invnorm) h e = omega arith
+width-kept caller n (correction P) h e = h
+width-kept caller n (quarterTurn P) h e = h

@@ -12,6 +12,7 @@ use Rattle.amplitudelaws.specs.Rows.{widestKernel, hermitianRow, unitRow, rotat
 use Rattle.amplitudelaws.specs.Step.{widthAfter}
 use Rattle.amplitudelaws.specs.Step.Step.{rotation, quarterTurn}
 use Rattle.amplitudelaws.specs.Acting.{acts}
+use Rattle.framelaws.specs.Caller.{Caller}
 use Rattle.framelaws.specs.Rows.{stepRow, rotationStepRow}
 use Rattle.framelaws.specs.Carrying.{turnedBy, turnedPast, carriedStep, passed}
 use Rattle.framelaws.specs.Memory.{Memory, stepped}
@@ -19,7 +20,7 @@ use Rattle.framelaws.specs.Survey.{mixedAmplitudes}
 
 pub record QuarterTurn (P : Pauli) : Type 1 where
   -- refused by the same rows
-  pub rows : (limit n : ℕ) → stepRow limit n (quarterTurn P) ≡ stepRow limit n (rotation P 0 (binary .h) (binary .h))
+  pub rows : (caller : Caller) (n : ℕ) → stepRow caller n (quarterTurn P) ≡ stepRow caller n (rotation P 0 (binary .h) (binary .h))
   -- the same amplitudes in any arithmetic, at binary64 in every lent buffer; no qubit more or less, and no scratch
   pub amplitudes : {R : Type 0} (A : Arithmetic R) (n : ℕ) (F : ℕ → Amplitude R)
       → acts A n (quarterTurn P) F ≡ acts A n (rotation P 0 (A .h) (A .h)) F
@@ -39,7 +40,7 @@ root-unit = refl
 pub quarter-turn-is : (P : Pauli) → QuarterTurn P
 unfolding stepRow rotationStepRow rotationKernelRow row acts stepped widthAfter mixedAmplitudes carriedStep passed turnedPast turnedBy
 quarter-turn-is P = record {
-  rows = λ limit n. let own = hermitianRow widestKernel P in sym (rw root-unit (first-nothing (first own 0) ∙ first-nothing own));
+  rows = λ caller n. let own = hermitianRow widestKernel P in sym (rw root-unit (first-nothing (first own 0) ∙ first-nothing own));
   amplitudes = λ A n F. refl;
   buffers = λ n m. refl;
   width = λ n. refl;

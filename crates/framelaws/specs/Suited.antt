@@ -14,6 +14,7 @@ use Rattle.amplitudelaws.specs.Passed.{promoted-width-passed}
 use Rattle.amplitudelaws.specs.Rows.{promotedWidthRow, unitRow}
 use Rattle.amplitudelaws.specs.Step.{Step, widthAfter}
 use Rattle.amplitudelaws.specs.Step.Step.{rotation, promotion, projection, correction, quarterTurn}
+use Rattle.framelaws.specs.Caller.{Caller}
 use Rattle.framelaws.specs.Rows.{promotionStepRow, stepRow}
 use Rattle.framelaws.specs.Carrying.{flipped, meets, widened, turnedPast, passed}
 use Rattle.framelaws.specs.Allowed.{Placed}
@@ -123,15 +124,15 @@ module _ (Q : Pauli) where
 
 -- ---- a step of a run that no row refuses can be passed by any Pauli on the state's qubits
 
-module _ (limit n : ℕ) (Q : Pauli) (a : Admitted Q) (width : Q .n ≡ n) where
+module _ (caller : Caller) (n : ℕ) (Q : Pauli) (a : Admitted Q) (width : Q .n ≡ n) where
   paired : {P : Pauli} → P .n ≡ n → Fitting P → Paired Q P
   paired placed f = record { first = a; second = f; width = width ∙ sym placed }
 
-  suited : (t : Step Float) → Placed n t → stepRow limit n t ≡ 0 → Suited Q t
+  suited : (t : Step Float) → Placed n t → stepRow caller n t ≡ 0 → Suited Q t
   unfolding stepRow promotionStepRow
   suited (rotation P sign c s) placed e = paired placed (rotation-fitting P sign c s e)
   suited (promotion c q) placed e =
-      let small = promoted-width-passed n (first-passed (promotedWidthRow n) (first (unitRow c q) (row (leb limit n) 15 0)) e .0) in
+      let small = promoted-width-passed n (first-passed (promotedWidthRow n) (first (unitRow c q) (row (leb (caller .widest) n) (caller .promotionRow) 0)) e .0) in
       (a, omega (arith, small, width))
   suited (projection M p v invnorm) placed e =
       let m = projection-measurable M p v invnorm e in
@@ -139,5 +140,5 @@ module _ (limit n : ℕ) (Q : Pauli) (a : Admitted Q) (width : Q .n ≡ n) where
   suited (correction P) placed e = paired placed (correction-fitting P e)
   suited (quarterTurn P) placed e = paired placed (quarter-turn-fitting P e)
 
-  pub step-passes : (t : Step Float) → Placed n t → stepRow limit n t ≡ 0 → passRow Q t ≡ 0
+  pub step-passes : (t : Step Float) → Placed n t → stepRow caller n t ≡ 0 → passRow Q t ≡ 0
   step-passes t placed e = suited-passed Q t (suited t placed e)

@@ -1,9 +1,9 @@
 // The service's ledger: runs offered, finished and refused, in 64 bits, each going round to 0 after
-// 2^64 - 1. Only running is offered to it; checking and carrying are not.
+// 2^64 - 1. Only running is offered to it; checking and carrying are not. It counts none of the emulator's runs.
 use runner::RunAnswer;
 ghost use mathlib.Core.Path.{_≡_};
 ghost use Rattle.amplitudelaws.specs.Lent.{memory};
-ghost use Rattle.runlaws.specs.Run.{widestRun};
+ghost use Rattle.framelaws.specs.Caller.{service, emulator};
 ghost use Rattle.runlaws.specs.Calls.{running};
 ghost use Rattle.answers.specs.Answer.{isAccepted};
 ghost use Rattle.runlaws.specs.Ledger as history;
@@ -55,16 +55,39 @@ impl Ledger {
         scratch_im: &mut [f64],
     ) -> Served
         ensures { λ r. let m = memory re im «scratch_re» «scratch_im» in
-            let did = running widestRun (now (run .entry)) (m .entry) in
+            let did = running service (now (run .entry)) (m .entry) in
             ⌜ (runAnswerOf (r .answer) ≡ did .answer) × (m .exit ≡ did .lent) ⌝ }
         ensures { λ r. let m = memory re im «scratch_re» «scratch_im» in
             let call : history.Call = record { run = now (run .entry); memory = m .entry } in
-            ⌜ ledgerOf (r .ledger) ≡ history.served widestRun call (ledgerOf self) ⌝ }
+            ⌜ ledgerOf (r .ledger) ≡ history.after (history.serving call) (ledgerOf self) ⌝ }
     {
         let answer = runner::run_contiguous(run, re, im, scratch_re, scratch_im);
         let finished = is_finished(answer);
         let ledger = self.counted(finished);
         Served { answer, ledger }
+    }
+
+    // Runs for the emulator, and counts nothing.
+    pub fn serve_emulated(
+        self,
+        run: &[u8],
+        re: &mut [f64],
+        im: &mut [f64],
+        scratch_re: &mut [f64],
+        scratch_im: &mut [f64],
+    ) -> Served
+        ensures { λ r. let m = memory re im «scratch_re» «scratch_im» in
+            let did = running emulator (now (run .entry)) (m .entry) in
+            ⌜ (runAnswerOf (r .answer) ≡ did .answer) × (m .exit ≡ did .lent) ⌝ }
+        ensures { λ r. let m = memory re im «scratch_re» «scratch_im» in
+            let call : history.Call = record { run = now (run .entry); memory = m .entry } in
+            ⌜ ledgerOf (r .ledger) ≡ history.after (history.emulating call) (ledgerOf self) ⌝ }
+    {
+        let answer = runner::run_emulated(run, re, im, scratch_re, scratch_im);
+        Served {
+            answer,
+            ledger: self,
+        }
     }
 }
 

@@ -34,6 +34,11 @@ pub(crate) fn answer(answer: RunAnswer) {
     }
 }
 
+// Before the emulator's answers.
+pub(crate) fn emulator() {
+    io::write_all(STDOUT_FILENO, b"emulator ");
+}
+
 // Offered, finished, refused.
 pub(crate) fn counts(ledger: Ledger) {
     io::write_all(STDOUT_FILENO, b" counts");

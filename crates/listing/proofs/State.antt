@@ -13,7 +13,7 @@ use Rattle.lines.specs.Lines.{decimal, widthLine}
 use Rattle.lines.specs.Pieces.{sets-next, lined-short, lined-all, lined-fits}
 use Rattle.paulitext.specs.declared.TextAnswer.{TextAnswer}
 use Rattle.paulitext.specs.declared.TextAnswer.the-variants as text
-use Rattle.runlaws.specs.Run.{widestRun}
+use Rattle.framelaws.specs.Caller.{widestRun}
 use Rattle.listing.specs.Listing.{amplitudeLines, stateText}
 use Rattle.listing.specs.Laws.{lines-most}
 

@@ -9,7 +9,7 @@ use Rattle.amplitudelaws.specs.State.{State, point}
 use Rattle.lines.specs.Lines.{widthLine, amplitudeLine}
 use Rattle.lines.specs.Newlines.{lineCount, count-append, width-one, amplitude-one, refusal-one}
 use Rattle.runlaws.specs.Calls.{Ending, running}
-use Rattle.runlaws.specs.Run.{widestRun}
+use Rattle.framelaws.specs.Caller.{service}
 use Rattle.listing.specs.Listing.{fresh, amplitudeLines, stateText, textOf, listed}
 
 lines-count : (S : State) (d : ℕ) → lineCount (amplitudeLines S d) ≡ d
@@ -28,11 +28,11 @@ linesOf (accepted E) = 1 + 2 ^ E .width
 linesOf (refused n) = 1
 linesOf (refusedAt n at) = 1
 
-pub listed-count : (s : List ℕ) → lineCount (listed s) ≡ linesOf (running widestRun s fresh .answer)
+pub listed-count : (s : List ℕ) → lineCount (listed s) ≡ linesOf (running service s fresh .answer)
 unfolding listed textOf
-listed-count s = by (running widestRun s fresh .answer)
+listed-count s = by (running service s fresh .answer)
   where
-    by : (a : Answer Ending) → lineCount (textOf a (running widestRun s fresh .lent .state)) ≡ linesOf a
-    by (accepted E) = state-count (E .width) (running widestRun s fresh .lent .state)
+    by : (a : Answer Ending) → lineCount (textOf a (running service s fresh .lent .state)) ≡ linesOf a
+    by (accepted E) = state-count (E .width) (running service s fresh .lent .state)
     by (refused n) = refusal-one n
     by (refusedAt n at) = refusal-one n

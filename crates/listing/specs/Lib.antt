@@ -2,7 +2,6 @@ pub mod Listing
 pub mod Start
 pub mod Laws
 pub mod Room
-pub mod Numbers
 pub mod Most
 pub mod Counted
 pub mod Examples

@@ -8,7 +8,7 @@ use Rattle.answers.specs.Answer.Answer.{accepted, refused, refusedAt}
 use Rattle.amplitudelaws.specs.Binary.{binary}
 use Rattle.amplitudelaws.specs.State.{State, point}
 use Rattle.framelaws.specs.Memory.{Memory, memoryOf}
-use Rattle.runlaws.specs.Run.{widestRun}
+use Rattle.framelaws.specs.Caller.{widestRun, service}
 use Rattle.runlaws.specs.Calls.{Ending, running}
 use Rattle.lines.specs.Lines.{widthLine, amplitudeLine, refusalLine}
 
@@ -43,4 +43,4 @@ textOf (refusedAt n at) S = refusalLine n
 
 -- of a run's bytes, run from the start
 unfoldable pub listed : List ℕ → List ℕ
-listed s = textOf (running widestRun s fresh .answer) (running widestRun s fresh .lent .state)
+listed s = textOf (running service s fresh .answer) (running service s fresh .lent .state)

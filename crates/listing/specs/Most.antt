@@ -16,10 +16,10 @@ use Rattle.paulitext.specs.declared.TextAnswer.{TextAnswer}
 use Rattle.paulitext.specs.declared.TextAnswer.the-variants as text
 use Rattle.runlaws.specs.Calls.{Ending, running}
 use Rattle.runlaws.specs.Outcomes.{ending-within}
-use Rattle.runlaws.specs.Run.{widestRun}
+use Rattle.framelaws.specs.Caller.{widestRun, service}
 use Rattle.listing.specs.Laws.{lines-most}
 use Rattle.listing.specs.Listing.{fresh, amplitudeLines, stateText, textOf, listed}
-use Rattle.listing.specs.Numbers.{AnswerMost, running-most}
+use Rattle.runlaws.specs.Numbers.{Refusals, service-most}
 
 -- a line of 10 bytes for the width, and 4,096 of at most 39
 abbrev pub mostText : ℕ
@@ -42,11 +42,11 @@ refusal-most : (n : ℕ) → n ≤ 15 → length (refusalLine n) ≤ mostText
 refusal-most n h = omega (arith, refusal-length n, decimal-most 1 n (omega (arith, h)))
 
 pub listed-most : (s : List ℕ) → length (listed s) ≤ mostText
-unfolding listed textOf AnswerMost
-listed-most s = by (running widestRun s fresh .answer) refl (running-most widestRun s fresh)
+unfolding listed textOf Refusals
+listed-most s = by (running service s fresh .answer) refl (service-most widestRun s fresh)
   where
-    by : (a : Answer Ending) → running widestRun s fresh .answer ≡ a → AnswerMost a → length (textOf a (running widestRun s fresh .lent .state)) ≤ mostText
-    by (accepted E) e h = state-most (E .width) _ (ending-within widestRun s fresh E e)
+    by : (a : Answer Ending) → running service s fresh .answer ≡ a → Refusals (λ n. n ≤ 15) a → length (textOf a (running service s fresh .lent .state)) ≤ mostText
+    by (accepted E) e h = state-most (E .width) _ (ending-within service s fresh E e)
     by (refused n) e h = refusal-most n h
     by (refusedAt n at) e h = refusal-most n h
 

@@ -7,7 +7,7 @@ use lib.ListN.{getD-replicate}
 use lib.Seq.{getD-set-other}
 use Rattle.amplitudelaws.specs.Binary.{binary}
 use Rattle.amplitudelaws.specs.State.{point}
-use Rattle.runlaws.specs.Run.{widestRun}
+use Rattle.framelaws.specs.Caller.{widestRun}
 use Rattle.listing.specs.Listing.{states, fresh}
 
 pub fresh-first : point (fresh .state) 0 ≡ record { re = binary .one; im = binary .nought }

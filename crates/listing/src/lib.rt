@@ -8,7 +8,7 @@ ghost use lib.ListN.{length};
 ghost use lib.Seq.{sets};
 ghost use Rattle.amplitudelaws.specs.State.{State};
 ghost use Rattle.amplitudelaws.specs.Lent.{state, lentState, Room};
-ghost use Rattle.runlaws.specs.Run.{widestRun};
+ghost use Rattle.framelaws.specs.Caller.{widestRun};
 ghost use Rattle.lines.specs.Calls.{Lined};
 ghost use Rattle.lines.specs.Lines.{amplitudeLine};
 ghost use Rattle.listing.specs.Listing.{amplitudeLines, stateText, listed};

@@ -15,6 +15,7 @@ use Rattle.amplitudelaws.specs.Rows.{hermitianRow, unitRow, rotationKernelRow, 
 use Rattle.amplitudelaws.specs.Passed.{measurement-passed}
 use Rattle.amplitudelaws.specs.Step.{Step, widthAfter}
 use Rattle.amplitudelaws.specs.Step.Step.{rotation, promotion, projection}
+use Rattle.framelaws.specs.Caller.{Caller}
 use Rattle.framelaws.specs.Rows.{rotationStepRow, promotionStepRow, projectionStepRow}
 use Rattle.runlaws.specs.Reading.{Cursor, Read, unless, judgedBy}
 use Rattle.runlaws.specs.Reading.Read.{stepRead, refusedRead}
@@ -112,33 +113,33 @@ module _ (P : Pauli) (sign : ℕ) (c s : Float) where
 
 -- ---- a promotion
 
-module _ (limit n : ℕ) (c q : Float) where
-  pub promotion-width : (w : ℕ) → w ≡ promotedWidthRow n → 0 < w → w ≡ promotionStepRow limit n c q
+module _ (caller : Caller) (n : ℕ) (c q : Float) where
+  pub promotion-width : (w : ℕ) → w ≡ promotedWidthRow n → 0 < w → w ≡ promotionStepRow caller n c q
   unfolding promotionStepRow
   promotion-width w e some = first-row w e some _
 
   module _ (narrow : promotedWidthRow n ≡ 0) where
-    promotion-floats : promotionStepRow limit n c q ≡ first (unitRow c q) (row (leb limit n) 15 0)
+    promotion-floats : promotionStepRow caller n c q ≡ first (unitRow c q) (row (leb (caller .widest) n) (caller .promotionRow) 0)
     unfolding promotionStepRow
     promotion-floats = first-none (promotedWidthRow n) _ narrow
 
-    pub promotion-unit : (u : ℕ) → u ≡ unitRow c q → 0 < u → u ≡ promotionStepRow limit n c q
+    pub promotion-unit : (u : ℕ) → u ≡ unitRow c q → 0 < u → u ≡ promotionStepRow caller n c q
     promotion-unit u e some = first-row u e some _ ∙ sym promotion-floats
 
-    pub promotion-limit : unitRow c q ≡ 0 → limit ≤ n → 15 ≡ promotionStepRow limit n c q
+    pub promotion-limit : unitRow c q ≡ 0 → caller .widest ≤ n → caller .promotionRow ≡ promotionStepRow caller n c q
     unfolding first row
-    promotion-limit e h = sym (promotion-floats ∙ rw (e, le-leb limit n h))
+    promotion-limit e h = sym (promotion-floats ∙ rw (e, le-leb (caller .widest) n h))
 
-    pub promotion-passed : unitRow c q ≡ 0 → n < limit → promotionStepRow limit n c q ≡ 0
+    pub promotion-passed : unitRow c q ≡ 0 → n < caller .widest → promotionStepRow caller n c q ≡ 0
     unfolding first row
-    promotion-passed e h = promotion-floats ∙ rw (e, lt-leb limit n h)
+    promotion-passed e h = promotion-floats ∙ rw (e, lt-leb (caller .widest) n h)
 
-  pub promotion-step : (at : Cursor) (next : ℕ) {x y : Float} → x ≡ c → y ≡ q → promotionStepRow limit n c q ≡ 0
-      → stepRead (promotion x y) (record { at = next; width = at .width + 1 }) ≡ judgedBy (promotionStepRow limit n c q) at next (promotion c q)
+  pub promotion-step : (at : Cursor) (next : ℕ) {x y : Float} → x ≡ c → y ≡ q → promotionStepRow caller n c q ≡ 0
+      → stepRead (promotion x y) (record { at = next; width = at .width + 1 }) ≡ judgedBy (promotionStepRow caller n c q) at next (promotion c q)
   unfolding widthAfter
   promotion-step at next isC isQ e =
       let more : at .width + 1 ≡ suc (at .width) = omega arith in
-      rw (isC, isQ, more) (judged-step (promotionStepRow limit n c q) at next (promotion c q) e)
+      rw (isC, isQ, more) (judged-step (promotionStepRow caller n c q) at next (promotion c q) e)
 
 -- ---- a projection
 

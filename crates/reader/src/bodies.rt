@@ -1,6 +1,6 @@
 // The body of each kind of step. The lowest number that refuses is answered: 3 and 6 to 8 of the
-// kernels' rows, 9 to 12 of a projection's, then 14 for a sign or a branch over 1, 15 for a promotion at
-// the limit. But for a promotion the limit on the width does not matter.
+// kernels' rows, 9 to 12 of a projection's, then 14 for a sign or a branch over 1, the caller's row for a
+// promotion at its greatest width. But for a promotion who calls does not matter.
 use crate::FloatAnswer;
 use activepauli::ActivePauli;
 use steps::Cursor;
@@ -8,9 +8,11 @@ use steps::Read;
 use steps::Step;
 ghost use mathlib.Core.Path.{_≡_};
 ghost use mathlib.Core.Option.{some};
-ghost use Prim.Native.Nat.{ℕ, _+_, _≤_};
+ghost use Prim.Native.Nat.{_+_, _≤_};
 ghost use lib.ListN.{length};
 ghost use Rattle.activepauli.specs.Active.{activeOf};
+ghost use Rattle.callers.specs.Meaning.{callerOf};
+ghost use Rattle.framelaws.specs.Caller.{Caller};
 ghost use Rattle.runlaws.specs.Bytes.{floatAt, pauliAt};
 ghost use Rattle.runlaws.specs.Reading.{rotationBytes, promotionBytes, projectionBytes, correctionBytes, quarterTurnBytes};
 ghost use Rattle.runlaws.specs.Reading.{rotationIn, promotionIn, projectionIn, correctionIn, quarterTurnIn, unless, judged};
@@ -67,7 +69,7 @@ fn float(body: &[u8], i: usize) -> FloatAnswer
 pub(crate) fn rotation(body: &[u8], cursor: Cursor, next: usize) -> Read
     requires { ⌜ length (now body) ≡ rotationBytes ⌝ }
     ensures { λ r. let t = rotationIn (cursor .width) (now (body .entry)) in
-        ⌜ ((limit : ℕ) → readOf r ≡ judged limit (cursorOf cursor) next (some t)) ⌝ }
+        ⌜ ((caller : Caller) → readOf r ≡ judged caller (cursorOf cursor) next (some t)) ⌝ }
 {
     let pauli = pauli(body, cursor.width);
     let hermitian = rows::hermitian_row(pauli, rows::WIDEST_KERNEL);
@@ -92,9 +94,9 @@ pub(crate) fn rotation(body: &[u8], cursor: Cursor, next: usize) -> Read
     Read::Step(Step::Rotation(pauli, sign == 1, c, s), behind)
 }
 
-pub(crate) fn promotion(body: &[u8], cursor: Cursor, next: usize, limit: usize) -> Read
+pub(crate) fn promotion(body: &[u8], cursor: Cursor, next: usize, caller: callers::Caller) -> Read
     requires { ⌜ length (now body) ≡ promotionBytes ⌝ }
-    ensures { λ r. ⌜ readOf r ≡ judged limit (cursorOf cursor) next (some (promotionIn (now (body .entry)))) ⌝ }
+    ensures { λ r. ⌜ readOf r ≡ judged (callerOf caller) (cursorOf cursor) next (some (promotionIn (now (body .entry)))) ⌝ }
 {
     let too_wide = rows::promoted_width_row(cursor.width);
     if too_wide != 0 {
@@ -110,8 +112,8 @@ pub(crate) fn promotion(body: &[u8], cursor: Cursor, next: usize, limit: usize) 
     if unit != 0 {
         return Read::Refused(unit, cursor.at);
     }
-    if limit <= cursor.width {
-        return Read::Refused(15, cursor.at);
+    if caller.widest() <= cursor.width {
+        return Read::Refused(caller.promotion_row(), cursor.at);
     }
     let behind = Cursor {
         at: next,
@@ -123,7 +125,7 @@ pub(crate) fn promotion(body: &[u8], cursor: Cursor, next: usize, limit: usize) 
 pub(crate) fn projection(body: &[u8], cursor: Cursor, next: usize) -> Read
     requires { ⌜ length (now body) ≡ projectionBytes ⌝ }
     ensures { λ r. let t = projectionIn (cursor .width) (now (body .entry)) in
-        ⌜ ((limit : ℕ) → readOf r ≡ judged limit (cursorOf cursor) next (some t)) ⌝ }
+        ⌜ ((caller : Caller) → readOf r ≡ judged caller (cursorOf cursor) next (some t)) ⌝ }
 {
     let pauli = pauli(body, cursor.width);
     let hermitian = rows::hermitian_row(pauli, rows::WIDEST_KERNEL);
@@ -167,7 +169,7 @@ fn kept(row: u8, step: Step, cursor: Cursor, next: usize) -> Read
 pub(crate) fn correction(body: &[u8], cursor: Cursor, next: usize) -> Read
     requires { ⌜ length (now body) ≡ correctionBytes ⌝ }
     ensures { λ r. let t = correctionIn (cursor .width) (now (body .entry)) in
-        ⌜ ((limit : ℕ) → readOf r ≡ judged limit (cursorOf cursor) next (some t)) ⌝ }
+        ⌜ ((caller : Caller) → readOf r ≡ judged caller (cursorOf cursor) next (some t)) ⌝ }
 {
     let pauli = pauli(body, cursor.width);
     let row = rows::width_row(pauli, rows::WIDEST_KERNEL);
@@ -177,7 +179,7 @@ pub(crate) fn correction(body: &[u8], cursor: Cursor, next: usize) -> Read
 pub(crate) fn quarter_turn(body: &[u8], cursor: Cursor, next: usize) -> Read
     requires { ⌜ length (now body) ≡ quarterTurnBytes ⌝ }
     ensures { λ r. let t = quarterTurnIn (cursor .width) (now (body .entry)) in
-        ⌜ ((limit : ℕ) → readOf r ≡ judged limit (cursorOf cursor) next (some t)) ⌝ }
+        ⌜ ((caller : Caller) → readOf r ≡ judged caller (cursorOf cursor) next (some t)) ⌝ }
 {
     let pauli = pauli(body, cursor.width);
     let row = rows::hermitian_row(pauli, rows::WIDEST_KERNEL);

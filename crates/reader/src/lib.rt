@@ -1,8 +1,8 @@
-// Steps of a run, read by the field at a cursor. A read answers for any bytes and any cursor, under any
-// limit on the width.
+// Steps of a run, read by the field at a cursor. A read answers for any bytes and any cursor, whoever calls.
 mod bodies;
 mod number;
 
+use callers::Caller;
 use fields::FieldAnswer;
 use steps::Cursor;
 use steps::Read;
@@ -10,6 +10,7 @@ ghost use mathlib.Core.Path.{_≡_};
 ghost use mathlib.Core.Option.{some};
 ghost use Rattle.runlaws.specs.Field.{Field};
 ghost use Rattle.runlaws.specs.Reading.{readField, readAt};
+ghost use Rattle.callers.specs.Meaning.{callerOf};
 ghost use Rattle.steps.specs.Meaning.{cursorOf, readOf};
 
 // Eight bytes as a float: a NaN pattern does not become one.
@@ -18,28 +19,28 @@ pub(crate) enum FloatAnswer {
     NaN,
 }
 
-// The field at the cursor: a step that no row refuses, the end field, or the refusal. A cursor over the limit is where no
-// run leads: 14 there.
-pub fn read(run: &[u8], cursor: Cursor, limit: usize) -> Read
-    ensures { λ r. ⌜ readOf r ≡ readAt limit (now (run .entry)) (cursorOf cursor) ⌝ }
+// The field at the cursor: a step that no row refuses, the end field, or the refusal. A cursor past the caller's
+// greatest width is where no run leads: 14 there.
+pub fn read(run: &[u8], cursor: Cursor, caller: Caller) -> Read
+    ensures { λ r. ⌜ readOf r ≡ readAt (callerOf caller) (now (run .entry)) (cursorOf cursor) ⌝ }
 {
     if fields::MOST_BYTES < run.len() {
         return Read::Refused(14, 0);
     }
-    if limit < cursor.width {
+    if caller.widest() < cursor.width {
         return Read::Refused(14, cursor.at);
     }
     let FieldAnswer::Whole { tag, next } = fields::field(run, cursor.at) else {
         return Read::Refused(14, cursor.at);
     };
     let held = fields::body(run, cursor.at);
-    read_field(tag, held, cursor, next, limit)
+    read_field(tag, held, cursor, next, caller)
 }
 
 // By tag and length; a field that has them from no row of the scope's table is 14 whatever its body.
-fn read_field(tag: u8, held: &[u8], cursor: Cursor, next: usize, limit: usize) -> Read
+fn read_field(tag: u8, held: &[u8], cursor: Cursor, next: usize, caller: Caller) -> Read
     ensures { λ r. let field : Field = record { tag = tag; body = now (held .entry); next = next } in
-        ⌜ readOf r ≡ readField limit (cursorOf cursor) (some field) ⌝ }
+        ⌜ readOf r ≡ readField (callerOf caller) (cursorOf cursor) (some field) ⌝ }
 {
     let size = held.len();
     if (tag == steps::tag::END) & (size == 0) {
@@ -52,7 +53,7 @@ fn read_field(tag: u8, held: &[u8], cursor: Cursor, next: usize, limit: usize) -
         return bodies::rotation(held, cursor, next);
     }
     if (tag == steps::tag::PROMOTION) & (size == bodies::PROMOTION_BYTES) {
-        return bodies::promotion(held, cursor, next, limit);
+        return bodies::promotion(held, cursor, next, caller);
     }
     if (tag == steps::tag::PROJECTION) & (size == bodies::PROJECTION_BYTES) {
         return bodies::projection(held, cursor, next);

@@ -2,9 +2,12 @@
 use crate::both;
 use crate::write;
 use activepauli::ActivePauli;
+use callers::Caller;
+use carrier::CarryAnswer;
 use kernel_calls::read;
 use pauli_calls::form;
 use pauli_calls::show;
+use runner::RunAnswer;
 use steps::Cursor;
 use steps::Step;
 use steps::tag;
@@ -13,22 +16,32 @@ ghost use Prim.Native.Nat.{_≤_};
 pub(crate) fn call(call: u8, run: &[u8], words: [u64; 12], rest: &[u8]) {
     match call {
         b'd' => write::field(run, form::index(words[0])),
-        b't' => write::start(fields::start(run, form::index(words[0]))),
-        b'p' => step(run, words),
+        b't' => write::start(fields::start(run)),
+        b'p' => step(run, words, Caller::Service(form::index(words[2]))),
+        b'P' => step(run, words, Caller::Emulator),
         b'k' => write::check(checker::check_run(run)),
+        b'K' => write::check(checker::check_emulated(run)),
         b's' => cuts(run),
-        b'y' => carry(run, read::first_pauli(words), form::index(words[4])),
+        b'y' | b'Y' => carry(run, words, who(call)),
         b'g' => past(run, words, rest),
         _ => with_re(call, run, words, rest),
     }
 }
 
-fn step(run: &[u8], words: [u64; 12]) {
+// Who makes a call: the emulator's are capitals.
+fn who(call: u8) -> Caller {
+    if call < b'a' {
+        return Caller::Emulator;
+    }
+    Caller::service()
+}
+
+fn step(run: &[u8], words: [u64; 12], caller: Caller) {
     let cursor = Cursor {
         at: form::index(words[0]),
         width: form::index(words[1]),
     };
-    write::read(reader::read(run, cursor, form::index(words[2])));
+    write::read(reader::read(run, cursor, caller));
 }
 
 // The check of the run cut at each byte, a comma after each.
@@ -41,20 +54,33 @@ fn cuts(run: &[u8]) {
     }
 }
 
-fn carry(run: &[u8], pauli: ActivePauli, size: usize) {
+fn carry(run: &[u8], words: [u64; 12], caller: Caller) {
+    let size = form::index(words[4]);
     if 66000 < size {
         show::unread();
         return;
     }
     let mut space = crate::room(0xee);
-    carry_to(run, pauli, &mut space[0..size]);
+    carry_to(run, read::first_pauli(words), &mut space[0..size], caller);
 }
 
-fn carry_to(run: &[u8], pauli: ActivePauli, out: &mut [u8]) {
-    if write::carried(carrier::carry_run(run, pauli, out)) {
+fn carry_to(run: &[u8], pauli: ActivePauli, out: &mut [u8], caller: Caller) {
+    if write::carried(carry_for(run, pauli, out, caller)) {
         write::output(run, out);
     } else {
         write::output(&run[0..0], out);
+    }
+}
+
+pub(crate) fn carry_for(
+    run: &[u8],
+    pauli: ActivePauli,
+    out: &mut [u8],
+    caller: Caller,
+) -> CarryAnswer {
+    match caller {
+        Caller::Service(_) => carrier::carry_run(run, pauli, out),
+        Caller::Emulator => carrier::carry_emulated(run, pauli, out),
     }
 }
 
@@ -110,20 +136,27 @@ fn with_im(call: u8, run: &[u8], words: [u64; 12], text: &[u8], re: &mut [f64]) 
     let mut im = [0.0; 160];
     let part = read::floats(text, &mut im);
     let n = part.count;
-    if call == b'n' {
-        with_scratch(run, words, re, &mut im[0..n]);
+    if (call == b'h') | (call == b'H') {
+        both::carried(run, read::first_pauli(words), re, &im[0..n], who(call));
     } else {
-        both::carried(run, read::first_pauli(words), re, &im[0..n]);
+        with_scratch(run, words, re, &mut im[0..n], who(call));
     }
 }
 
 // Running is lent two scratch buffers too, of the lengths that the words say.
-fn with_scratch(run: &[u8], words: [u64; 12], re: &mut [f64], im: &mut [f64]) {
+fn with_scratch(run: &[u8], words: [u64; 12], re: &mut [f64], im: &mut [f64], caller: Caller) {
     let mut scratch_re = [7.0; 160];
     let mut scratch_im = [7.5; 160];
     let m = capped(words[0]);
     let n = capped(words[1]);
-    ran(run, re, im, &mut scratch_re[0..m], &mut scratch_im[0..n]);
+    ran(
+        run,
+        re,
+        im,
+        &mut scratch_re[0..m],
+        &mut scratch_im[0..n],
+        caller,
+    );
 }
 
 fn capped(word: u64) -> usize
@@ -133,8 +166,29 @@ fn capped(word: u64) -> usize
     if n < 160 { n } else { 160 }
 }
 
-fn ran(run: &[u8], re: &mut [f64], im: &mut [f64], scratch_re: &mut [f64], scratch_im: &mut [f64]) {
-    write::ran(runner::run_contiguous(run, re, im, scratch_re, scratch_im));
+fn ran(
+    run: &[u8],
+    re: &mut [f64],
+    im: &mut [f64],
+    scratch_re: &mut [f64],
+    scratch_im: &mut [f64],
+    caller: Caller,
+) {
+    write::ran(run_for(run, re, im, scratch_re, scratch_im, caller));
     write::state(re, im);
     write::state(scratch_re, scratch_im);
+}
+
+pub(crate) fn run_for(
+    run: &[u8],
+    re: &mut [f64],
+    im: &mut [f64],
+    scratch_re: &mut [f64],
+    scratch_im: &mut [f64],
+    caller: Caller,
+) -> RunAnswer {
+    match caller {
+        Caller::Service(_) => runner::run_contiguous(run, re, im, scratch_re, scratch_im),
+        Caller::Emulator => runner::run_emulated(run, re, im, scratch_re, scratch_im),
+    }
 }

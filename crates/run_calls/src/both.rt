@@ -1,41 +1,58 @@
-// Demand 3 on one run, Pauli and state: the Pauli fired and then the run, against the carried run and then
-// the end Pauli fired. The buffers of the two sides differ past the given entries, which plays no part.
+// Demand 3 on one run, Pauli and state, for either caller: the Pauli fired and then the run, against the carried run and
+// then the end Pauli fired. The buffers of the two sides differ past the given entries, which plays no part.
+use crate::ask;
 use crate::write;
 use activepauli::ActivePauli;
+use callers::Caller;
 use carrier::CarryAnswer;
 use pauli_calls::show;
 use runner::RunAnswer;
 ghost use Prim.Native.Nat.{_≤_};
 
-pub(crate) fn carried(run: &[u8], pauli: ActivePauli, re: &[f64], im: &[f64]) {
+pub(crate) fn carried(run: &[u8], pauli: ActivePauli, re: &[f64], im: &[f64], caller: Caller) {
     let n = run.len();
     if 66000 < n {
         show::unread();
         return;
     }
     let mut space = crate::room(0);
-    carried_to(run, pauli, &mut space[0..n], re, im);
+    carried_to(run, pauli, &mut space[0..n], re, im, caller);
 }
 
-fn carried_to(run: &[u8], pauli: ActivePauli, out: &mut [u8], re: &[f64], im: &[f64]) {
-    match carrier::carry_run(run, pauli, out) {
-        CarryAnswer::Carried(end) => sides(run, pauli, out, end, re, im),
+fn carried_to(
+    run: &[u8],
+    pauli: ActivePauli,
+    out: &mut [u8],
+    re: &[f64],
+    im: &[f64],
+    caller: Caller,
+) {
+    match ask::carry_for(run, pauli, out, caller) {
+        CarryAnswer::Carried(end) => sides(run, pauli, out, end, re, im, caller),
         CarryAnswer::Refused(row) => show::refused(row),
         CarryAnswer::RefusedAt(row, at) => write::refused_at(row, at),
     }
 }
 
-fn sides(run: &[u8], pauli: ActivePauli, carried: &[u8], end: ActivePauli, re: &[f64], im: &[f64]) {
+fn sides(
+    run: &[u8],
+    pauli: ActivePauli,
+    carried: &[u8],
+    end: ActivePauli,
+    re: &[f64],
+    im: &[f64],
+    caller: Caller,
+) {
     let mut left_re = [0.0; 160];
     let mut left_im = [0.0; 160];
-    let left = fired_and_run(run, pauli, re, im, &mut left_re, &mut left_im);
+    let left = fired_and_run(run, pauli, re, im, &mut left_re, &mut left_im, caller);
     let RunAnswer::Finished { width, steps: _ } = left else {
         write::ran(left);
         return;
     };
     let mut right_re = [7.0; 160];
     let mut right_im = [7.0; 160];
-    run_and_fired(carried, end, re, im, &mut right_re, &mut right_im);
+    run_and_fired(carried, end, re, im, &mut right_re, &mut right_im, caller);
     write::sides(dimension(width), &left_re, &left_im, &right_re, &right_im);
 }
 
@@ -46,11 +63,12 @@ fn fired_and_run(
     im: &[f64],
     to_re: &mut [f64; 160],
     to_im: &mut [f64; 160],
+    caller: Caller,
 ) -> RunAnswer {
     copy(re, to_re);
     copy(im, to_im);
     fired(pauli, to_re, to_im);
-    ran(run, to_re, to_im)
+    ran(run, to_re, to_im, caller)
 }
 
 fn run_and_fired(
@@ -60,10 +78,11 @@ fn run_and_fired(
     im: &[f64],
     to_re: &mut [f64; 160],
     to_im: &mut [f64; 160],
+    caller: Caller,
 ) {
     copy(re, to_re);
     copy(im, to_im);
-    ran(run, to_re, to_im);
+    ran(run, to_re, to_im, caller);
     fired(pauli, to_re, to_im);
 }
 
@@ -83,10 +102,10 @@ fn fired(pauli: ActivePauli, re: &mut [f64; 160], im: &mut [f64; 160]) {
     correction::correct_contiguous_active(re, im, pauli);
 }
 
-fn ran(run: &[u8], re: &mut [f64; 160], im: &mut [f64; 160]) -> RunAnswer {
+fn ran(run: &[u8], re: &mut [f64; 160], im: &mut [f64; 160], caller: Caller) -> RunAnswer {
     let mut scratch_re = [0.0; 160];
     let mut scratch_im = [0.0; 160];
-    runner::run_contiguous(run, re, im, &mut scratch_re, &mut scratch_im)
+    ask::run_for(run, re, im, &mut scratch_re, &mut scratch_im, caller)
 }
 
 // 2^width, at most 160.

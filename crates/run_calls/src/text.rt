@@ -4,25 +4,29 @@ use kernel_calls::read;
 use kernel_calls::read::Parsed;
 use pauli_calls::form;
 
-// A call is known by its name's last letter.
+// A call is known by its name's last letter, and by the capital if it is the emulator's: `emulated-` stands before it.
 pub(crate) fn call(name: &[u8]) -> u8 {
     if name.len() == 0 {
         return 0;
     }
-    let last = name.len() - 1;
-    name[last]
+    let end = name.len() - 1;
+    let last = name[end];
+    if name[0] == b'e' {
+        return last % 32 + 64;
+    }
+    last
 }
 
-// How many numbers a call takes: check and cuts; field and start; run; step; both; carry; passing. 98 where
-// there is no such call.
+// How many numbers a call takes: check, cuts and start; field; run, and the emulator's step; step; both; carry;
+// passing. 98 where there is no such call.
 pub(crate) fn arity(call: u8) -> usize {
     match call {
-        b'k' | b's' => 0,
-        b'd' | b't' => 1,
-        b'n' => 2,
+        b'k' | b'K' | b's' | b't' => 0,
+        b'd' => 1,
+        b'n' | b'N' | b'P' => 2,
         b'p' => 3,
-        b'h' => 4,
-        b'y' => 5,
+        b'h' | b'H' => 4,
+        b'y' | b'Y' => 5,
         b'g' => 10,
         _ => 98,
     }

@@ -18,6 +18,7 @@ use Rattle.runlaws.specs.Reading.{Read, Cursor, readAt}
 use Rattle.runlaws.specs.Reading.Read.{stepRead, endRead, refusedRead}
 use Rattle.verdicts.specs.declared.Verdict.{Verdict}
 use Rattle.kernel_exports.specs.Nothing.{noFloat}
+use Rattle.framelaws.specs.Caller.{Caller}
 use Rattle.run_exports.specs.declared.seen.SeenField.{SeenField}
 use Rattle.run_exports.specs.declared.seen.SeenRead.{SeenRead}
 
@@ -100,13 +101,13 @@ decoded-tag (projects tag size) = sym tag
 decoded-tag (corrects tag size) = sym tag
 decoded-tag (quarter-turns tag size) = sym tag
 
-module _ (limit : ℕ) (s : List ℕ) (c d : Cursor) where
-  pub step-tag : (t : Step Float) → readAt limit s c ≡ stepRead t d → readSeen (readAt limit s c) .field .tag ≡ byteAt s (c .at)
+module _ (caller : Caller) (s : List ℕ) (c d : Cursor) where
+  pub step-tag : (t : Step Float) → readAt caller s c ≡ stepRead t d → readSeen (readAt caller s c) .field .tag ≡ byteAt s (c .at)
   step-tag t e =
-      let k = step-field limit s c d t e in
+      let k = step-field caller s c d t e in
       rw e (decoded-tag (k .is) ∙ field-whole s (c .at) (k .field) (k .here) .tag)
 
-  pub end-tag : readAt limit s c ≡ endRead d → readSeen (readAt limit s c) .field .tag ≡ byteAt s (c .at)
+  pub end-tag : readAt caller s c ≡ endRead d → readSeen (readAt caller s c) .field .tag ≡ byteAt s (c .at)
   end-tag e =
-      let k = end-field limit s c d e in
+      let k = end-field caller s c d e in
       rw e (sym (k .tag) ∙ field-whole s (c .at) (k .field) (k .here) .tag)

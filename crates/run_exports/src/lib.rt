@@ -4,10 +4,12 @@
 //
 // The floating-point mode is the process's, and no proof sees it. A program that is linked with -ffast-math, or that
 // sets flush-to-zero itself, has subnormal numbers made zeros here too; another rounding mode changes last bits.
+pub mod emulated;
 pub mod given;
 pub mod seen;
 
 use activepauli::ActivePauli;
+use callers::Caller;
 use given::GivenStep;
 use given::SeenPast;
 use kernel_exports::seen::SeenActivePauli;
@@ -21,8 +23,8 @@ use verdicts::SeenNumber;
 ghost use mathlib.Core.Path.{_≡_};
 ghost use Rattle.paulilaws.specs.Pauli.{identity};
 ghost use Rattle.amplitudelaws.specs.Lent.{memory};
+ghost use Rattle.framelaws.specs.Caller.{service, serviceWithin};
 ghost use Rattle.runlaws.specs.Reading.{readAt};
-ghost use Rattle.runlaws.specs.Run.{widestRun};
 ghost use Rattle.runlaws.specs.Calls.{checking, running, carrying};
 ghost use Rattle.runlaws.specs.Ledger as history;
 ghost use Rattle.activepauli.specs.Active.{activeOf};
@@ -36,25 +38,27 @@ ghost use Rattle.run_exports.specs.Ending.{seenEndingOf};
 ghost use Rattle.run_exports.specs.Reading.{readSeen, seenReadOf};
 ghost use Rattle.run_exports.specs.Past.{givenCall, pastSeen, givenOf, pastOf};
 
-// The field at a cursor: where its tag stands, and the width of the state there.
+// The field at a cursor: where its tag stands, and the width of the state there. Read by the service's rows, under any
+// limit on the width.
 #[no_mangle]
 pub extern "C" fn naribhush_read(run: &[u8], at: usize, width: usize, limit: usize) -> SeenRead
-    ensures { λ r. ⌜ seenReadOf r ≡ readSeen (readAt limit (now (run .entry)) (record { at = at; width = width })) ⌝ }
+    ensures { λ r. let read = readAt (serviceWithin limit) (now (run .entry)) (record { at = at; width = width }) in
+        ⌜ seenReadOf r ≡ readSeen read ⌝ }
 {
     let cursor = Cursor { at, width };
-    seen::read(reader::read(run, cursor, limit))
+    seen::read(reader::read(run, cursor, Caller::Service(limit)))
 }
 
 #[no_mangle]
 pub extern "C" fn naribhush_check_run(run: &[u8]) -> SeenSurvey
-    ensures { λ r. ⌜ Seen (r .verdict) (surveyFieldsOf (r .survey)) noSurvey (checking widestRun (now (run .entry))) ⌝ }
+    ensures { λ r. ⌜ Seen (r .verdict) (surveyFieldsOf (r .survey)) noSurvey (checking service (now (run .entry))) ⌝ }
 {
     seen::survey(checker::check_run(run))
 }
 
 #[no_mangle]
 pub extern "C" fn naribhush_check_within(run: &[u8], limit: usize) -> SeenSurvey
-    ensures { λ r. ⌜ Seen (r .verdict) (surveyFieldsOf (r .survey)) noSurvey (checking limit (now (run .entry))) ⌝ }
+    ensures { λ r. ⌜ Seen (r .verdict) (surveyFieldsOf (r .survey)) noSurvey (checking (serviceWithin limit) (now (run .entry))) ⌝ }
 {
     seen::survey(checker::check_within(run, limit))
 }
@@ -68,7 +72,7 @@ pub extern "C" fn naribhush_run(
     scratch_im: &mut [f64],
 ) -> SeenEnding
     ensures { λ r. let m = memory re im «scratch_re» «scratch_im» in
-        let did = running widestRun (now (run .entry)) (m .entry) in
+        let did = running service (now (run .entry)) (m .entry) in
         ⌜ Seen (r .verdict) (seenEndingOf r) noEnding (did .answer) × (m .exit ≡ did .lent) ⌝ }
 {
     seen::ending(runner::run_contiguous(run, re, im, scratch_re, scratch_im))
@@ -76,7 +80,7 @@ pub extern "C" fn naribhush_run(
 
 #[no_mangle]
 pub extern "C" fn naribhush_carry(run: &[u8], pauli: ActivePauli, out: &mut [u8]) -> SeenActivePauli
-    ensures { λ r. let did = carrying widestRun (now (run .entry)) (activeOf pauli) (now (out .entry)) in
+    ensures { λ r. let did = carrying service (now (run .entry)) (activeOf pauli) (now (out .entry)) in
         ⌜ Seen (r .verdict) (activeOf (r .pauli)) (identity 0) (did .answer) × (now (out .exit) ≡ did .lent) ⌝ }
 {
     seen::carried(carrier::carry_run(run, pauli, out))
@@ -115,11 +119,11 @@ pub extern "C" fn naribhush_serve(
     scratch_im: &mut [f64],
 ) -> SeenServed
     ensures { λ r. let m = memory re im «scratch_re» «scratch_im» in
-        let did = running widestRun (now (run .entry)) (m .entry) in
+        let did = running service (now (run .entry)) (m .entry) in
         ⌜ Seen (r .ending .verdict) (seenEndingOf (r .ending)) noEnding (did .answer) × (m .exit ≡ did .lent) ⌝ }
     ensures { λ r. let m = memory re im «scratch_re» «scratch_im» in
         let call : history.Call = record { run = now (run .entry); memory = m .entry } in
-        ⌜ ledgerOf (r .ledger) ≡ history.served widestRun call (ledgerOf ledger) ⌝ }
+        ⌜ ledgerOf (r .ledger) ≡ history.after (history.serving call) (ledgerOf ledger) ⌝ }
 {
     let served = ledger.serve(run, re, im, scratch_re, scratch_im);
     let answer = served.answer;

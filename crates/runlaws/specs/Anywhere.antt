@@ -12,6 +12,7 @@ use lib.ListN.{length, take, drop, length-take, length-drop, length-append, List
 use lib.Seq.{getD-append-add, drop-append-add, drop-append-le, take-append-le}
 use borrow.Author.Tests.{le-leb, le-ltb}
 use Rattle.amplitudelaws.specs.Step.{Step}
+use Rattle.framelaws.specs.Caller.{Caller}
 use Rattle.framelaws.specs.Rows.{stepRow}
 use Rattle.runlaws.specs.Bytes.{byteAt, part}
 use Rattle.runlaws.specs.Field.{Field, mostBytes, bodyLength, isWhole, fieldAt}
@@ -33,26 +34,26 @@ readMoved k (refusedRead n at) = refusedRead n (k + at)
 
 -- ---- put between other bytes
 
-module _ (limit k : ℕ) (c : Cursor) (f : Field) where
+module _ (caller : Caller) (k : ℕ) (c : Cursor) (f : Field) where
   by-row : (r : ℕ) (t : Step Float) → judgedBy r (cursorMoved k c) (k + f .next) t ≡ readMoved k (judgedBy r c (f .next) t)
   unfolding judgedBy unless readMoved
   by-row zero t = refl
   by-row (suc r) t = refl
 
-  by-step : (o : Option (Step Float)) → judged limit (cursorMoved k c) (k + f .next) o ≡ readMoved k (judged limit c (f .next) o)
+  by-step : (o : Option (Step Float)) → judged caller (cursorMoved k c) (k + f .next) o ≡ readMoved k (judged caller c (f .next) o)
   unfolding judged readMoved
   by-step none = refl
-  by-step (some t) = by-row (stepRow limit (c .width) t) t
+  by-step (some t) = by-row (stepRow caller (c .width) t) t
 
-  read-moved : readField limit (cursorMoved k c) (some (fieldMoved k f)) ≡ readMoved k (readField limit c (some f))
+  read-moved : readField caller (cursorMoved k c) (some (fieldMoved k f)) ≡ readMoved k (readField caller c (some f))
   unfolding readField decoded
   read-moved = by-end (isField 6 0 f)
     where
       ends : Cursor
       ends = record { at = f .next; width = c .width }
 
-      by-end : (q : Bool) → cond q (endRead (cursorMoved k ends)) (judged limit (cursorMoved k c) (k + f .next) (decoded (c .width) f))
-          ≡ readMoved k (cond q (endRead ends) (judged limit c (f .next) (decoded (c .width) f)))
+      by-end : (q : Bool) → cond q (endRead (cursorMoved k ends)) (judged caller (cursorMoved k c) (k + f .next) (decoded (c .width) f))
+          ≡ readMoved k (cond q (endRead ends) (judged caller c (f .next) (decoded (c .width) f)))
       by-end true = unfold readMoved in refl
       by-end false = by-step (decoded (c .width) f)
 
@@ -94,21 +95,21 @@ module _ (pre s rest : List ℕ) where
           ← w .body,
         )
 
-  pub read-in : (limit : ℕ) (c : Cursor) (f : Field) → length all ≤ mostBytes → fieldAt s (c .at) ≡ some f
-      → readAt limit all (cursorMoved (length pre) c) ≡ readMoved (length pre) (readAt limit s c)
+  pub read-in : (caller : Caller) (c : Cursor) (f : Field) → length all ≤ mostBytes → fieldAt s (c .at) ≡ some f
+      → readAt caller all (cursorMoved (length pre) c) ≡ readMoved (length pre) (readAt caller s c)
   unfolding readAt
-  read-in limit c f short here =
+  read-in caller c f short here =
       let within : length s ≤ mostBytes = omega (arith, length-append pre (s ++ rest), length-append s rest) in
       rw (le-ltb mostBytes (length all) short, le-ltb mostBytes (length s) within, field-in (c .at) f here, here)
-      (go (ltb limit (c .width)))
+      (go (ltb (caller .widest) (c .width)))
     where
       k : ℕ
       k = length pre
 
-      go : (q : Bool) → cond q (refusedRead 14 (k + c .at)) (readField limit (cursorMoved k c) (some (fieldMoved k f)))
-          ≡ readMoved k (cond q (refusedRead 14 (c .at)) (readField limit c (some f)))
+      go : (q : Bool) → cond q (refusedRead 14 (k + c .at)) (readField caller (cursorMoved k c) (some (fieldMoved k f)))
+          ≡ readMoved k (cond q (refusedRead 14 (c .at)) (readField caller c (some f)))
       go true = unfold readMoved in refl
-      go false = read-moved limit k c f
+      go false = read-moved caller k c f
 
 -- ---- cut out
 
@@ -143,10 +144,10 @@ module _ (s : List ℕ) (at : ℕ) (f : Field) (here : fieldAt s at ≡ some f) 
       let w = field-whole s at f here in
       rw (le-leb (3 + bodyLength own 0) (length own) (omega (arith, own-length, own-size, w .next)))
 
-  pub read-out : (limit n : ℕ) → length s ≤ mostBytes
-      → readAt limit s (record { at = at; width = n }) ≡ readMoved at (readAt limit own (record { at = 0; width = n }))
-  read-out limit n short =
+  pub read-out : (caller : Caller) (n : ℕ) → length s ≤ mostBytes
+      → readAt caller s (record { at = at; width = n }) ≡ readMoved at (readAt caller own (record { at = 0; width = n }))
+  read-out caller n short =
       let start : Cursor = record { at = 0; width = n } in
-      sym (ap₂ (λ (l : List ℕ) (i : ℕ). readAt limit l (record { at = i; width = n })) own-parts (add-zero _ ∙ before))
-      ∙ read-in (take at s) own behind limit start _ (rw own-parts short) own-whole
-      ∙ ap (λ (k : ℕ). readMoved k (readAt limit own start)) before
+      sym (ap₂ (λ (l : List ℕ) (i : ℕ). readAt caller l (record { at = i; width = n })) own-parts (add-zero _ ∙ before))
+      ∙ read-in (take at s) own behind caller start _ (rw own-parts short) own-whole
+      ∙ ap (λ (k : ℕ). readMoved k (readAt caller own start)) before

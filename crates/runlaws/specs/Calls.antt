@@ -11,6 +11,7 @@ pub use Rattle.answers.specs.Outcome.{Outcome, byRow}
 use Rattle.paulilaws.specs.Pauli.{Pauli, fits}
 use Rattle.amplitudelaws.specs.Rows.{roomRow}
 use Rattle.amplitudelaws.specs.State.{roomFor, room}
+use Rattle.framelaws.specs.Caller.{Caller}
 use Rattle.framelaws.specs.Carrying.{carriedSteps, endPauli}
 use Rattle.framelaws.specs.Memory.{Memory, ran}
 use Rattle.framelaws.specs.Survey.{Survey, survey}
@@ -28,8 +29,8 @@ onRun (refusedAt n at) old f = record { answer = refusedAt n at; lent = old }
 unfoldable pub surveyOf : Run → Survey
 surveyOf R = survey (R .width) (R .steps)
 
-unfoldable pub checking : ℕ → List ℕ → Answer Survey
-checking limit s = mapped surveyOf (runOf limit s)
+unfoldable pub checking : Caller → List ℕ → Answer Survey
+checking caller s = mapped surveyOf (runOf caller s)
 
 -- the width that a run starts at, and its survey
 pub record CheckedRun : Type 0 where
@@ -39,8 +40,8 @@ pub record CheckedRun : Type 0 where
 abbrev pub checkedRunOf : Run → CheckedRun
 checkedRunOf R = record { start = R .width; survey = surveyOf R }
 
-unfoldable pub checkingWithStart : ℕ → List ℕ → Answer CheckedRun
-checkingWithStart limit s = mapped checkedRunOf (runOf limit s)
+unfoldable pub checkingWithStart : Caller → List ℕ → Answer CheckedRun
+checkingWithStart caller s = mapped checkedRunOf (runOf caller s)
 
 -- ---- running
 
@@ -56,8 +57,8 @@ endingOf v = record { width = v .width; steps = v .steps }
 unfoldable pub memoryRow : Survey → Memory → ℕ
 memoryRow v m = roomRow (room (v .greatest) (m .state) && roomFor (v .scratch) (m .scratch))
 
-unfoldable pub running : ℕ → List ℕ → Memory → Outcome Ending Memory
-running limit s m = onRun (runOf limit s) m (λ R. byRow (memoryRow (surveyOf R) m) (endingOf (surveyOf R)) (ran (R .width) (R .steps) m) m)
+unfoldable pub running : Caller → List ℕ → Memory → Outcome Ending Memory
+running caller s m = onRun (runOf caller s) m (λ R. byRow (memoryRow (surveyOf R) m) (endingOf (surveyOf R)) (ran (R .width) (R .steps) m) m)
 
 -- ---- carrying
 
@@ -69,6 +70,6 @@ carryingRow Q width size room = row (not (fits Q)) 3 (row (not (eqb (Q .n) width
 unfoldable pub carriedRun : Pauli → Run → List ℕ → List ℕ
 carriedRun Q R s = flagged 4 (carriedSteps Q (R .steps)) s
 
-unfoldable pub carrying : ℕ → List ℕ → Pauli → List ℕ → Outcome Pauli (List ℕ)
-carrying limit s Q out =
-    onRun (runOf limit s) out (λ R. byRow (carryingRow Q (R .width) (length s) (length out)) (endPauli Q (R .steps)) (carriedRun Q R s ++ drop (length s) out) out)
+unfoldable pub carrying : Caller → List ℕ → Pauli → List ℕ → Outcome Pauli (List ℕ)
+carrying caller s Q out =
+    onRun (runOf caller s) out (λ R. byRow (carryingRow Q (R .width) (length s) (length out)) (endPauli Q (R .steps)) (carriedRun Q R s ++ drop (length s) out) out)

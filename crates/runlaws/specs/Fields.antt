@@ -12,6 +12,7 @@ use borrow.Author.Tests.{leb-true, lt-leb, le-ltb, ltb-false, eqb-true}
 use Rattle.paulilaws.specs.Fitting.{both-left, both-right}
 use Rattle.amplitudelaws.specs.Step.{Step, widthAfter}
 use Rattle.amplitudelaws.specs.Step.Step.{rotation, promotion, projection, correction, quarterTurn}
+use Rattle.framelaws.specs.Caller.{Caller}
 use Rattle.framelaws.specs.Rows.{stepRow}
 use Rattle.framelaws.specs.Allowed.{Placed}
 use Rattle.framelaws.specs.Passing.{width-kept}
@@ -76,7 +77,7 @@ module _ (n : ℕ) (f : Field) where
   pub has-size : (tag size : ℕ) → isField tag size f ≡ true → length (f .body) ≡ size
   has-size tag size h = eqb-true (length (f .body)) size (both-right (eqb (f .tag) tag) (eqb (length (f .body)) size) h)
 
-  decodes : (t : Step Float) → decoded n f ≡ some t → Decodes n f t
+  pub decodes : (t : Step Float) → decoded n f ≡ some t → Decodes n f t
   unfolding decoded DecodesOr
   decodes t e = subst DecodesOr e
       (by-test DecodesOr (isField 2 34 f) (λ h. rotates (has-tag 2 34 h) (has-size 2 34 h))
@@ -86,14 +87,14 @@ module _ (n : ℕ) (f : Field) where
       (λ _. by-test DecodesOr (isField 7 17 f) (λ h. quarter-turns (has-tag 7 17 h) (has-size 7 17 h)) (λ _. tt))))))
 
 -- and back: a field that is a step is read as it
-pub read-decodes : (limit : ℕ) (c : Cursor) (f : Field) {t : Step Float} → Decodes (c .width) f t → stepRow limit (c .width) t ≡ 0
-    → readField limit c (some f) ≡ stepRead t (record { at = f .next; width = widthAfter (c .width) t })
+pub read-decodes : (caller : Caller) (c : Cursor) (f : Field) {t : Step Float} → Decodes (c .width) f t → stepRow caller (c .width) t ≡ 0
+    → readField caller c (some f) ≡ stepRead t (record { at = f .next; width = widthAfter (c .width) t })
 unfolding readField judged judgedBy unless decoded
-read-decodes limit c f (rotates tag size) h = rw (tag, size, h)
-read-decodes limit c f (promotes tag size) h = rw (tag, size, h)
-read-decodes limit c f (projects tag size) h = rw (tag, size, h)
-read-decodes limit c f (corrects tag size) h = rw (tag, size, h)
-read-decodes limit c f (quarter-turns tag size) h = rw (tag, size, h)
+read-decodes caller c f (rotates tag size) h = rw (tag, size, h)
+read-decodes caller c f (promotes tag size) h = rw (tag, size, h)
+read-decodes caller c f (projects tag size) h = rw (tag, size, h)
+read-decodes caller c f (corrects tag size) h = rw (tag, size, h)
+read-decodes caller c f (quarter-turns tag size) h = rw (tag, size, h)
 
 pub decodes-size : {n : ℕ} {f : Field} {t : Step Float} → Decodes n f t → fieldSize t ≡ 3 + length (f .body)
 unfolding fieldSize
@@ -113,57 +114,57 @@ decodes-placed (quarter-turns tag size) = refl
 
 -- ---- reads
 
--- in a run that is not too long, at a width within the limit, the field alone decides
-pub read-within : (limit : ℕ) (s : List ℕ) (c : Cursor) → length s ≤ mostBytes → c .width ≤ limit → readAt limit s c ≡ readField limit c (fieldAt s (c .at))
+-- in a run that is not too long, at a width within the caller's greatest, the field alone decides
+pub read-within : (caller : Caller) (s : List ℕ) (c : Cursor) → length s ≤ mostBytes → c .width ≤ caller .widest → readAt caller s c ≡ readField caller c (fieldAt s (c .at))
 unfolding readAt
-read-within limit s c short within = rw (le-ltb mostBytes (length s) short, le-ltb limit (c .width) within)
+read-within caller s c short within = rw (le-ltb mostBytes (length s) short, le-ltb (caller .widest) (c .width) within)
 
 -- a field at the cursor that is read as a step
-pub record StepField (limit : ℕ) (s : List ℕ) (c d : Cursor) (t : Step Float) : Type 0 where
+pub record StepField (caller : Caller) (s : List ℕ) (c d : Cursor) (t : Step Float) : Type 0 where
   pub short : length s ≤ mostBytes
-  pub within : c .width ≤ limit
+  pub within : c .width ≤ caller .widest
   pub field : Field
   pub here : fieldAt s (c .at) ≡ some field
   pub is : Decodes (c .width) field t
-  pub row : stepRow limit (c .width) t ≡ 0
+  pub row : stepRow caller (c .width) t ≡ 0
   pub behind : d ≡ record { at = field .next; width = widthAfter (c .width) t }
 
 -- the end field, read at the cursor
-pub record EndField (limit : ℕ) (s : List ℕ) (c d : Cursor) : Type 0 where
+pub record EndField (caller : Caller) (s : List ℕ) (c d : Cursor) : Type 0 where
   pub short : length s ≤ mostBytes
-  pub within : c .width ≤ limit
+  pub within : c .width ≤ caller .widest
   pub field : Field
   pub here : fieldAt s (c .at) ≡ some field
   pub tag : field .tag ≡ 6
   pub bare : length (field .body) ≡ 0
   pub behind : d ≡ record { at = field .next; width = c .width }
 
-pub record StepRead (limit : ℕ) (s : List ℕ) (c : Cursor) (t : Step Float) (d : Cursor) : Type 0 where
+pub record StepRead (caller : Caller) (s : List ℕ) (c : Cursor) (t : Step Float) (d : Cursor) : Type 0 where
   pub next : d .at ≡ c .at + fieldSize t
   pub inside : d .at ≤ length s
   pub width : d .width ≡ widthAfter (c .width) t
-  pub within : d .width ≤ limit
-  pub row : stepRow limit (c .width) t ≡ 0
+  pub within : d .width ≤ caller .widest
+  pub row : stepRow caller (c .width) t ≡ 0
   pub placed : Placed (c .width) t
 
-module _ (limit : ℕ) (s : List ℕ) (c : Cursor) where
+module _ (caller : Caller) (s : List ℕ) (c : Cursor) where
   FieldOr : Read → Type 0
-  FieldOr (stepRead t d) = StepField limit s c d t
-  FieldOr (endRead d) = EndField limit s c d
+  FieldOr (stepRead t d) = StepField caller s c d t
+  FieldOr (endRead d) = EndField caller s c d
   FieldOr (refusedRead n at) = Unit
 
-  module _ (short : length s ≤ mostBytes) (within : c .width ≤ limit) (f : Field) (here : fieldAt s (c .at) ≡ some f) where
-    row-read : (t : Step Float) → Decodes (c .width) f t → (r : ℕ) → stepRow limit (c .width) t ≡ r → FieldOr (judgedBy r c (f .next) t)
+  module _ (short : length s ≤ mostBytes) (within : c .width ≤ caller .widest) (f : Field) (here : fieldAt s (c .at) ≡ some f) where
+    row-read : (t : Step Float) → Decodes (c .width) f t → (r : ℕ) → stepRow caller (c .width) t ≡ r → FieldOr (judgedBy r c (f .next) t)
     unfolding FieldOr judgedBy unless
     row-read t is zero e = record { short = short; within = within; field = f; here = here; is = is; row = e; behind = refl }
     row-read t is (suc r) e = tt
 
-    judged-read : (o : Option (Step Float)) → decoded (c .width) f ≡ o → FieldOr (judged limit c (f .next) o)
+    judged-read : (o : Option (Step Float)) → decoded (c .width) f ≡ o → FieldOr (judged caller c (f .next) o)
     unfolding FieldOr judged
     judged-read none e = tt
-    judged-read (some t) e = row-read t (decodes (c .width) f t e) (stepRow limit (c .width) t) refl
+    judged-read (some t) e = row-read t (decodes (c .width) f t e) (stepRow caller (c .width) t) refl
 
-    end-read : isField 6 0 f ≡ true → EndField limit s c (record { at = f .next; width = c .width })
+    end-read : isField 6 0 f ≡ true → EndField caller s c (record { at = f .next; width = c .width })
     end-read h = record {
       short = short;
       within = within;
@@ -174,28 +175,28 @@ module _ (limit : ℕ) (s : List ℕ) (c : Cursor) where
       behind = refl;
     }
 
-  field-read : length s ≤ mostBytes → c .width ≤ limit → (o : Option Field) → fieldAt s (c .at) ≡ o → FieldOr (readField limit c o)
+  field-read : length s ≤ mostBytes → c .width ≤ caller .widest → (o : Option Field) → fieldAt s (c .at) ≡ o → FieldOr (readField caller c o)
   unfolding FieldOr readField
   field-read short within none e = tt
   field-read short within (some f) e =
       by-test FieldOr (isField 6 0 f) (end-read short within f e) (λ h. judged-read short within f e (decoded (c .width) f) refl)
 
-  read-field : FieldOr (readAt limit s c)
+  read-field : FieldOr (readAt caller s c)
   unfolding FieldOr readAt
   read-field =
       by-test FieldOr (ltb mostBytes (length s)) (λ h. tt)
-      (λ h. by-test FieldOr (ltb limit (c .width)) (λ k. tt)
-      (λ k. field-read (ltb-false mostBytes (length s) h) (ltb-false limit (c .width) k) (fieldAt s (c .at)) refl))
+      (λ h. by-test FieldOr (ltb (caller .widest) (c .width)) (λ k. tt)
+      (λ k. field-read (ltb-false mostBytes (length s) h) (ltb-false (caller .widest) (c .width) k) (fieldAt s (c .at)) refl))
 
-  pub step-field : (d : Cursor) (t : Step Float) → readAt limit s c ≡ stepRead t d → StepField limit s c d t
+  pub step-field : (d : Cursor) (t : Step Float) → readAt caller s c ≡ stepRead t d → StepField caller s c d t
   unfolding FieldOr
   step-field d t e = subst FieldOr e read-field
 
-  pub end-field : (d : Cursor) → readAt limit s c ≡ endRead d → EndField limit s c d
+  pub end-field : (d : Cursor) → readAt caller s c ≡ endRead d → EndField caller s c d
   unfolding FieldOr
   end-field d e = subst FieldOr e read-field
 
-  pub step-read : (d : Cursor) (t : Step Float) → readAt limit s c ≡ stepRead t d → StepRead limit s c t d
+  pub step-read : (d : Cursor) (t : Step Float) → readAt caller s c ≡ stepRead t d → StepRead caller s c t d
   step-read d t e =
       let k = step-field d t e in
       let w = field-whole s (c .at) (k .field) (k .here) in
@@ -205,7 +206,7 @@ module _ (limit : ℕ) (s : List ℕ) (c : Cursor) where
         next = omega (arith, at, w .next, w .size, decodes-size (k .is));
         inside = omega (arith, at, w .next, w .inside);
         width = width;
-        within = rw width (width-kept limit (c .width) t (k .within) (k .row));
+        within = rw width (width-kept caller (c .width) t (k .within) (k .row));
         row = k .row;
         placed = decodes-placed (k .is);
       }

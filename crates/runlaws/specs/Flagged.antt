@@ -10,6 +10,7 @@ use Rattle.answers.specs.Answer.Answer.{accepted}
 use Rattle.paulilaws.specs.Pauli.{Pauli}
 use Rattle.amplitudelaws.specs.Step.{Step}
 use Rattle.amplitudelaws.specs.Step.Step.{rotation, promotion, projection, correction, quarterTurn}
+use Rattle.framelaws.specs.Caller.{Caller}
 use Rattle.framelaws.specs.Carrying.{carriedStep, passed, carriedSteps}
 use Rattle.framelaws.specs.Carried.{flagless-carried}
 use Rattle.runlaws.specs.Bytes.{byteAt}
@@ -84,18 +85,18 @@ module _ {R : Type 0} where
   inside-carried at [] n Q h = tt
   inside-carried at (t ∷ ts) n Q h = rw (carried-size Q t) (h .0, inside-carried (at + fieldSize t) ts n (passed Q t) (h .1))
 
-walk-inside : (limit fuel : ℕ) (s : List ℕ) (c : Cursor) (ts : List (Step Float)) → length s ≤ mostBytes → length s ≤ c .at + fuel
-    → walk limit fuel s c ≡ accepted ts → Inside (c .at) ts (length s)
-walk-inside limit fuel s c [] short h e = tt
-walk-inside limit fuel s c (t ∷ ts) short h e =
-    let k = first-step limit fuel s c short h t ts e in
-    let r = step-read limit s c (k .behind) t (k .read) in
-    rw (← r .next) (r .inside, walk-inside limit (fuel - 1) s (k .behind) ts short (k .enough) (k .walked))
+walk-inside : (caller : Caller) (fuel : ℕ) (s : List ℕ) (c : Cursor) (ts : List (Step Float)) → length s ≤ mostBytes → length s ≤ c .at + fuel
+    → walk caller fuel s c ≡ accepted ts → Inside (c .at) ts (length s)
+walk-inside caller fuel s c [] short h e = tt
+walk-inside caller fuel s c (t ∷ ts) short h e =
+    let k = first-step caller fuel s c short h t ts e in
+    let r = step-read caller s c (k .behind) t (k .read) in
+    rw (← r .next) (r .inside, walk-inside caller (fuel - 1) s (k .behind) ts short (k .enough) (k .walked))
 
-pub carried-append : (limit : ℕ) (s rest : List ℕ) (Q : Pauli) (R : Run) → runOf limit s ≡ accepted R
+pub carried-append : (caller : Caller) (s rest : List ℕ) (Q : Pauli) (R : Run) → runOf caller s ≡ accepted R
     → flagged 4 (carriedSteps Q (R .steps)) (s ++ rest) ≡ carriedRun Q R s ++ rest
 unfolding carriedRun
-carried-append limit s rest Q R e =
-    let r = run-allowed limit s R e in
+carried-append caller s rest Q R e =
+    let r = run-allowed caller s R e in
     flags-append 4 (carriedSteps Q (R .steps)) s rest (inside-carried 4 (R .steps) (length s) Q
-    (walk-inside limit (length s) s (record { at = 4; width = R .width }) (R .steps) (r .short) (omega arith) (r .walked)))
+    (walk-inside caller (length s) s (record { at = 4; width = R .width }) (R .steps) (r .short) (omega arith) (r .walked)))

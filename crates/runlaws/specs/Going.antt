@@ -9,6 +9,7 @@ use Rattle.answers.specs.Answer.Answer.{accepted}
 use Rattle.paulilaws.specs.Pauli.{Pauli}
 use Rattle.paulilaws.specs.Fitting.{Admitted}
 use Rattle.amplitudelaws.specs.Step.{Step, widthAfter}
+use Rattle.framelaws.specs.Caller.{Caller}
 use Rattle.framelaws.specs.Carrying.{passed}
 use Rattle.framelaws.specs.PassRow.{passRow}
 use Rattle.framelaws.specs.Suited.{passed-width, passed-admitted, step-passes}
@@ -20,39 +21,39 @@ use Rattle.runlaws.specs.Walk.{Left, left-outset, accepted-step}
 use Rattle.runlaws.specs.WholeRun.{run-allowed}
 
 -- at a cursor: `steps` are left, and Q is a Pauli on the qubits there
-pub record Going (limit : ℕ) (s : List ℕ) (c : Cursor) (Q : Pauli) (steps : List (Step Float)) : Type 0 where
-  pub left : Left limit s c (accepted steps)
+pub record Going (caller : Caller) (s : List ℕ) (c : Cursor) (Q : Pauli) (steps : List (Step Float)) : Type 0 where
+  pub left : Left caller s c (accepted steps)
   pub admitted : Admitted Q
   pub width : Q .n ≡ c .width
 
 -- before the first step
-pub going-outset : (limit : ℕ) (s : List ℕ) (R : Run) (Q : Pauli) → runOf limit s ≡ accepted R → Admitted Q → Q .n ≡ R .width
-    → Going limit s (record { at = 4; width = Q .n }) Q (R .steps)
-going-outset limit s R Q e a width =
-    let r = run-allowed limit s R e in
+pub going-outset : (caller : Caller) (s : List ℕ) (R : Run) (Q : Pauli) → runOf caller s ≡ accepted R → Admitted Q → Q .n ≡ R .width
+    → Going caller s (record { at = 4; width = Q .n }) Q (R .steps)
+going-outset caller s R Q e a width =
+    let r = run-allowed caller s R e in
     let c : Cursor = record { at = 4; width = Q .n } in
     record {
-      left = subst (Left limit s c) (ap (λ (n : ℕ). walk limit (length s) s (record { at = 4; width = n })) width ∙ r .walked)
-          (left-outset limit s c (r .short) (r .begins));
+      left = subst (Left caller s c) (ap (λ (n : ℕ). walk caller (length s) s (record { at = 4; width = n })) width ∙ r .walked)
+          (left-outset caller s c (r .short) (r .begins));
       admitted = a;
       width = refl;
     }
 
 -- Behind a step t that was read at c, at the cursor d. No row refused to take Q past it, and less of the run is left: a loop's measure.
-pub record Gone (limit : ℕ) (s : List ℕ) (c : Cursor) (Q : Pauli) (steps : List (Step Float)) (t : Step Float) (d : Cursor) : Type 0 where
+pub record Gone (caller : Caller) (s : List ℕ) (c : Cursor) (Q : Pauli) (steps : List (Step Float)) (t : Step Float) (d : Cursor) : Type 0 where
   pub after : List (Step Float)
   pub steps-are : steps ≡ t ∷ after
-  pub read : StepRead limit s c t d
+  pub read : StepRead caller s c t d
   pub row : passRow Q t ≡ 0
-  pub going : Going limit s d (passed Q t) after
+  pub going : Going caller s d (passed Q t) after
   pub less : length s - d .at < length s - c .at
 
-pub going-step : {limit : ℕ} {s : List ℕ} {c : Cursor} {Q : Pauli} {steps : List (Step Float)} → Going limit s c Q steps
-    → (t : Step Float) (d : Cursor) → readAt limit s c ≡ stepRead t d → Gone limit s c Q steps t d
-going-step {limit} {s} {c} {Q} g t d e =
-    let r = step-read limit s c d t e in
+pub going-step : {caller : Caller} {s : List ℕ} {c : Cursor} {Q : Pauli} {steps : List (Step Float)} → Going caller s c Q steps
+    → (t : Step Float) (d : Cursor) → readAt caller s c ≡ stepRead t d → Gone caller s c Q steps t d
+going-step {caller} {s} {c} {Q} g t d e =
+    let r = step-read caller s c d t e in
     let k = accepted-step (g .left) t d e in
-    let row : passRow Q t ≡ 0 = step-passes limit (c .width) Q (g .admitted) (g .width) t (r .placed) (r .row) in
+    let row : passRow Q t ≡ 0 = step-passes caller (c .width) Q (g .admitted) (g .width) t (r .placed) (r .row) in
     record {
       after = k .after;
       steps-are = k .rest-is;

@@ -1,9 +1,10 @@
--- The service's ledger: runs offered, finished and refused, each count going round to 0 after 2^64 - 1.
-use mathlib.Core.Bool.{Bool, true, not}
+-- The service's ledger: runs offered, finished and refused, each count going round to 0 after 2^64 - 1. It counts none of the emulator's runs.
+use mathlib.Core.Bool.{Bool, true, false, not}
 use mathlib.Core.List.{List, [], _∷_}
 use Prim.Native.Nat.{ℕ, _+_, _%_, _^_}
 use Rattle.answers.specs.Answer.{isAccepted}
 use Rattle.bitlaws.specs.Digit.{bitOf}
+use Rattle.framelaws.specs.Caller.{service}
 use Rattle.framelaws.specs.Memory.{Memory}
 use Rattle.runlaws.specs.Calls.{running}
 
@@ -27,24 +28,54 @@ counted t L = record {
   refused = raisedBy (not t) (L .refused);
 }
 
--- a run offered, and what is lent with it
+-- ---- histories
+
+-- a run, and what is lent with it
 pub record Call : Type 0 where
   pub run : List ℕ
   pub memory : Memory
 
--- whether a call is finished
-unfoldable pub finishes : ℕ → Call → Bool
-finishes limit c = isAccepted (running limit (c .run) (c .memory) .answer)
+-- whether the service finishes it
+unfoldable pub finishes : Call → Bool
+finishes c = isAccepted (running service (c .run) (c .memory) .answer)
 
--- the ledger after a call, and after the calls of a history, the first of them first
-unfoldable pub served : ℕ → Call → Ledger → Ledger
-served limit c L = counted (finishes limit c) L
+-- a call of the service's, or of the emulator's
+pub data Event : Type 0 where
+  serving : Call → Event
+  emulating : Call → Event
 
-unfoldable pub servedAll : ℕ → List Call → Ledger → Ledger
-servedAll limit [] L = L
-servedAll limit (c ∷ cs) L = servedAll limit cs (served limit c L)
+-- the ledger after an event, and after the events of a history, the first of them first
+unfoldable pub after : Event → Ledger → Ledger
+after (serving c) L = counted (finishes c) L
+after (emulating c) L = L
 
--- how many calls of a history there are, finish, and are refused
-unfoldable pub tally : (Call → Bool) → List Call → ℕ
+unfoldable pub afterAll : List Event → Ledger → Ledger
+afterAll [] L = L
+afterAll (e ∷ es) L = afterAll es (after e L)
+
+-- ---- what there is to count
+
+-- whether an event is a call of the service's, of a kind that goes by whether it finishes
+unfoldable pub ofService : (Bool → Bool) → Event → Bool
+ofService kind (serving c) = kind (finishes c)
+ofService kind (emulating c) = false
+
+abbrev pub isOffered : Event → Bool
+isOffered = ofService (λ t. true)
+
+abbrev pub isFinished : Event → Bool
+isFinished = ofService (λ t. t)
+
+abbrev pub isRefused : Event → Bool
+isRefused = ofService not
+
+-- how many events of a history are so
+unfoldable pub tally : (Event → Bool) → List Event → ℕ
 tally p [] = 0
-tally p (c ∷ cs) = bitOf (p c) + tally p cs
+tally p (e ∷ es) = bitOf (p e) + tally p es
+
+-- the events of a history without the emulator's
+unfoldable pub servings : List Event → List Event
+servings [] = []
+servings (serving c ∷ es) = serving c ∷ servings es
+servings (emulating c ∷ es) = servings es

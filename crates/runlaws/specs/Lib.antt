@@ -24,3 +24,10 @@ pub mod Altered
 pub mod Frame
 pub mod Theorem
 pub mod Exact
+pub mod Roomy
+pub mod Numbers
+pub mod FileOrder
+pub mod TwoCallers
+pub mod SharedRun
+pub mod OwnRow
+pub mod Agreement

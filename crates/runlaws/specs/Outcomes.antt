@@ -15,6 +15,7 @@ use Rattle.paulilaws.specs.Pauli.{Pauli, fits}
 use Rattle.paulilaws.specs.Fitting.{Admitted, fits-admitted, both-left, both-right}
 use Rattle.amplitudelaws.specs.Rows.{roomRow}
 use Rattle.amplitudelaws.specs.State.{roomFor, room}
+use Rattle.framelaws.specs.Caller.{Caller}
 use Rattle.framelaws.specs.Allowed.{Allowed}
 use Rattle.framelaws.specs.Carrying.{endPauli}
 use Rattle.framelaws.specs.Memory.{Memory, ran}
@@ -72,7 +73,7 @@ room-both v m e =
     let enough = not-false (a && b) (row-passed (not (a && b)) 13 0 (lit< tt) e .0) in
     (both-left a b enough, both-right a b enough)
 
-module _ (limit : ℕ) (s : List ℕ) (m : Memory) where
+module _ (caller : Caller) (s : List ℕ) (m : Memory) where
   abbrev ownRow : Run → ℕ
   ownRow R = memoryRow (surveyOf R) m
 
@@ -82,33 +83,33 @@ module _ (limit : ℕ) (s : List ℕ) (m : Memory) where
   abbrev after : Run → Memory
   after R = ran (R .width) (R .steps) m
 
-  pub running-done : (E : Ending) → running limit s m .answer ≡ accepted E → Done (runOf limit s) (running limit s m) ownRow ends after E
+  pub running-done : (E : Ending) → running caller s m .answer ≡ accepted E → Done (runOf caller s) (running caller s m) ownRow ends after E
   unfolding running
-  running-done E e = done ownRow ends after m (runOf limit s) E e
+  running-done E e = done ownRow ends after m (runOf caller s) E e
 
-  pub running-answers : (R : Run) → runOf limit s ≡ accepted R → ownRow R ≡ 0 → (running limit s m .answer ≡ accepted (ends R)) × (running limit s m .lent ≡ after R)
+  pub running-answers : (R : Run) → runOf caller s ≡ accepted R → ownRow R ≡ 0 → (running caller s m .answer ≡ accepted (ends R)) × (running caller s m .lent ≡ after R)
   unfolding running
-  running-answers R e z = answers ownRow ends after m (runOf limit s) R e z
+  running-answers R e z = answers ownRow ends after m (runOf caller s) R e z
 
   -- a refused run leaves the state and the scratch as they were
-  pub running-kept : isAccepted (running limit s m .answer) ≡ false → running limit s m .lent ≡ m
+  pub running-kept : isAccepted (running caller s m .answer) ≡ false → running caller s m .lent ≡ m
   unfolding running
-  running-kept e = kept ownRow ends after m (runOf limit s) e
+  running-kept e = kept ownRow ends after m (runOf caller s) e
 
 -- ---- where an accepted run ends
 
-last-within : (limit n : ℕ) (ts : List (Step Float)) → n ≤ limit → Allowed limit n ts → lastWidth n ts ≤ limit
+last-within : (caller : Caller) (n : ℕ) (ts : List (Step Float)) → n ≤ caller .widest → Allowed caller n ts → lastWidth n ts ≤ caller .widest
 unfolding lastWidth
-last-within limit n [] h a = h
-last-within limit n (t ∷ ts) h a = last-within limit (widthAfter n t) ts (width-kept limit n t h (a .1)) (a .2)
+last-within caller n [] h a = h
+last-within caller n (t ∷ ts) h a = last-within caller (widthAfter n t) ts (width-kept caller n t h (a .1)) (a .2)
 
-pub ending-within : (limit : ℕ) (s : List ℕ) (m : Memory) (E : Ending) → running limit s m .answer ≡ accepted E → E .width ≤ limit
+pub ending-within : (caller : Caller) (s : List ℕ) (m : Memory) (E : Ending) → running caller s m .answer ≡ accepted E → E .width ≤ caller .widest
 unfolding surveyOf
-ending-within limit s m E e =
-    let known = running-done limit s m E e in
+ending-within caller s m E e =
+    let known = running-done caller s m E e in
     let R : Run = known .run in
-    let read = run-allowed limit s R (known .was) in
-    rw (known .value-is, survey-width (R .width) (R .steps)) (last-within limit (R .width) (R .steps) (read .width) (read .allowed))
+    let read = run-allowed caller s R (known .was) in
+    rw (known .value-is, survey-width (R .width) (R .steps)) (last-within caller (R .width) (R .steps) (read .width) (read .allowed))
 
 -- ---- carrying
 
@@ -122,7 +123,7 @@ carrying-passed Q width size room e =
     let c = row-passed (ltb room size) 16 0 (lit< tt) (b .1) in
     (fits-admitted Q (not-false (fits Q) (a .0)), eqb-true (Q .n) width (not-false (eqb (Q .n) width) (b .0)), ltb-false room size (c .0))
 
-module _ (limit : ℕ) (s : List ℕ) (Q : Pauli) (out : List ℕ) where
+module _ (caller : Caller) (s : List ℕ) (Q : Pauli) (out : List ℕ) where
   abbrev carryRow : Run → ℕ
   carryRow R = carryingRow Q (R .width) (length s) (length out)
 
@@ -132,15 +133,15 @@ module _ (limit : ℕ) (s : List ℕ) (Q : Pauli) (out : List ℕ) where
   abbrev output : Run → List ℕ
   output R = carriedRun Q R s ++ drop (length s) out
 
-  pub carrying-done : (end : Pauli) → carrying limit s Q out .answer ≡ accepted end → Done (runOf limit s) (carrying limit s Q out) carryRow ending output end
+  pub carrying-done : (end : Pauli) → carrying caller s Q out .answer ≡ accepted end → Done (runOf caller s) (carrying caller s Q out) carryRow ending output end
   unfolding carrying
-  carrying-done end e = done carryRow ending output out (runOf limit s) end e
+  carrying-done end e = done carryRow ending output out (runOf caller s) end e
 
-  pub carrying-answers : (R : Run) → runOf limit s ≡ accepted R → carryRow R ≡ 0 → (carrying limit s Q out .answer ≡ accepted (ending R)) × (carrying limit s Q out .lent ≡ output R)
+  pub carrying-answers : (R : Run) → runOf caller s ≡ accepted R → carryRow R ≡ 0 → (carrying caller s Q out .answer ≡ accepted (ending R)) × (carrying caller s Q out .lent ≡ output R)
   unfolding carrying
-  carrying-answers R e z = answers carryRow ending output out (runOf limit s) R e z
+  carrying-answers R e z = answers carryRow ending output out (runOf caller s) R e z
 
   -- a refused call leaves the output as it was
-  pub carrying-kept : isAccepted (carrying limit s Q out .answer) ≡ false → carrying limit s Q out .lent ≡ out
+  pub carrying-kept : isAccepted (carrying caller s Q out .answer) ≡ false → carrying caller s Q out .lent ≡ out
   unfolding carrying
-  carrying-kept e = kept carryRow ending output out (runOf limit s) e
+  carrying-kept e = kept carryRow ending output out (runOf caller s) e

@@ -8,6 +8,7 @@ use native.Mathlib.Omega.{arith}
 use lib.ListN.{length, set, drop, length-set, length-take, length-drop}
 use lib.Seq.{getD-set-other, getD-take, getD-drop, drop-set-add, take-set-lt, ext-getD}
 use borrow.Author.Tests.{le-leb}
+use Rattle.framelaws.specs.Caller.{Caller}
 use Rattle.runlaws.specs.Bytes.{byteAt, number, floatAt, pauliAt, part}
 use Rattle.runlaws.specs.Field.{Field, bodyLength, isWhole, fieldAt}
 use Rattle.runlaws.specs.Reading.{Cursor, Read, readAt}
@@ -86,21 +87,21 @@ field-set s at i v f e h =
 
 -- ---- a run is read from a cursor on by the bytes from there on
 
-pub read-same : (limit : ℕ) (s s' : List ℕ) (c : Cursor) → length s' ≡ length s
-    → ((i : ℕ) → c .at ≤ i → i < c .at + 3 + bodyLength s (c .at) → byteAt s' i ≡ byteAt s i) → readAt limit s' c ≡ readAt limit s c
+pub read-same : (caller : Caller) (s s' : List ℕ) (c : Cursor) → length s' ≡ length s
+    → ((i : ℕ) → c .at ≤ i → i < c .at + 3 + bodyLength s (c .at) → byteAt s' i ≡ byteAt s i) → readAt caller s' c ≡ readAt caller s c
 unfolding readAt
-read-same limit s s' c long same = rw (long, field-same s s' (c .at) long same)
+read-same caller s s' c long same = rw (long, field-same s s' (c .at) long same)
 
-pub walk-same : (limit fuel : ℕ) (s s' : List ℕ) (c : Cursor) → length s' ≡ length s → ((i : ℕ) → c .at ≤ i → byteAt s' i ≡ byteAt s i)
-    → walk limit fuel s' c ≡ walk limit fuel s c
+pub walk-same : (caller : Caller) (fuel : ℕ) (s s' : List ℕ) (c : Cursor) → length s' ≡ length s → ((i : ℕ) → c .at ≤ i → byteAt s' i ≡ byteAt s i)
+    → walk caller fuel s' c ≡ walk caller fuel s c
 unfolding walk
-walk-same limit zero s s' c long same = refl
-walk-same limit (suc fuel) s s' c long same =
-    rw (read-same limit s s' c long (λ i h k. same i h))
-    (go (readAt limit s c) refl (λ d h. walk-same limit fuel s s' d long (λ i k. same i (omega arith))))
+walk-same caller zero s s' c long same = refl
+walk-same caller (suc fuel) s s' c long same =
+    rw (read-same caller s s' c long (λ i h k. same i h))
+    (go (readAt caller s c) refl (λ d h. walk-same caller fuel s s' d long (λ i k. same i (omega arith))))
   where
-    go : (r : Read) → readAt limit s c ≡ r → ((d : Cursor) → c .at ≤ d .at → walk limit fuel s' d ≡ walk limit fuel s d)
-        → follow s' r (walk limit fuel s') ≡ follow s r (walk limit fuel s)
-    go (stepRead t d) e rest = let r = step-read limit s c d t e in unfold follow in rw (rest d (omega (arith, r .next)))
+    go : (r : Read) → readAt caller s c ≡ r → ((d : Cursor) → c .at ≤ d .at → walk caller fuel s' d ≡ walk caller fuel s d)
+        → follow s' r (walk caller fuel s') ≡ follow s r (walk caller fuel s)
+    go (stepRead t d) e rest = let r = step-read caller s c d t e in unfold follow in rw (rest d (omega (arith, r .next)))
     go (endRead d) e rest = unfold follow ended in rw long
     go (refusedRead n at) e rest = unfold follow in refl

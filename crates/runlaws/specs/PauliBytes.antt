@@ -15,6 +15,7 @@ use Rattle.amplitudelaws.specs.Passed.{width-passed}
 use Rattle.amplitudelaws.specs.Rows.{widestKernel}
 use Rattle.amplitudelaws.specs.Step.{widthAfter}
 use Rattle.amplitudelaws.specs.Step.Step.{correction}
+use Rattle.framelaws.specs.Caller.{Caller}
 use Rattle.framelaws.specs.Rows.{stepRow}
 use Rattle.runlaws.specs.Bytes.{byteAt, number, pauliAt}
 use Rattle.runlaws.specs.NumberBytes.{bytesOf, bytes-length, bytes-small, bytes-read}
@@ -75,10 +76,10 @@ correction-field P =
     rw (le-leb 20 (length (correctionField P)) (omega arith), take-all 17 (pauliBytes P) (omega arith))
 
 -- a piece, at the width of its Pauli
-pub correction-piece : (limit n : ℕ) (P : Pauli) → P .n ≡ n → n ≤ limit → stepRow limit n (correction P) ≡ 0
-    → Piece limit n (correction P) (correctionField P)
+pub correction-piece : (caller : Caller) (n : ℕ) (P : Pauli) → P .n ≡ n → n ≤ caller .widest → stepRow caller n (correction P) ≡ 0
+    → Piece caller n (correction P) (correctionField P)
 unfolding stepRow widthAfter
-correction-piece limit n P width within e =
+correction-piece caller n P width within e =
     let known = width-passed widestKernel P e in
     let c : Cursor = record { at = 0; width = n } in
     let f : Field = record { tag = 5; body = pauliBytes P; next = 20 } in
@@ -87,8 +88,8 @@ correction-piece limit n P width within e =
     = ap₂ pauliAt (sym width) (sym (append-nil (pauliBytes P))) ∙ pauli-read P [] (known .0) (omega (arith, known .1)) in
     let is : Decodes n f (correction P) = subst (λ (Q : Pauli). Decodes n f (correction Q)) back (corrects refl (pauli-length P)) in
     record {
-      read = read-within limit (correctionField P) c (omega arith) within ∙ ap (readField limit c) (correction-field P)
-          ∙ read-decodes limit c f is e ∙ rw size;
+      read = read-within caller (correctionField P) c (omega arith) within ∙ ap (readField caller c) (correction-field P)
+          ∙ read-decodes caller c f is e ∙ rw size;
     }
 
 -- ---- by computation

@@ -8,6 +8,7 @@ use lib.Ieee.{Float}
 use lib.ListN.{length}
 use Rattle.amplitudelaws.specs.Step.{Step, widthAfter}
 use Rattle.amplitudelaws.specs.Step.Step.{rotation, promotion, projection, correction, quarterTurn}
+use Rattle.framelaws.specs.Caller.{Caller}
 use Rattle.framelaws.specs.Rows.{stepRow}
 use Rattle.runlaws.specs.Bytes.{byteAt, floatAt, pauliAt}
 use Rattle.runlaws.specs.Field.{Field, mostBytes, fieldAt}
@@ -78,19 +79,19 @@ unfoldable pub judgedBy : ℕ → Cursor → ℕ → Step Float → Read
 judgedBy row c next t = unless row (c .at) (stepRead t (record { at = next; width = widthAfter (c .width) t }))
 
 -- none, a wrong tag or length, is 14
-unfoldable pub judged : ℕ → Cursor → ℕ → Option (Step Float) → Read
-judged limit c next none = refusedRead 14 (c .at)
-judged limit c next (some t) = judgedBy (stepRow limit (c .width) t) c next t
+unfoldable pub judged : Caller → Cursor → ℕ → Option (Step Float) → Read
+judged caller c next none = refusedRead 14 (c .at)
+judged caller c next (some t) = judgedBy (stepRow caller (c .width) t) c next t
 
 -- a field, none where it is cut
-unfoldable pub readField : ℕ → Cursor → Option Field → Read
-readField limit c none = refusedRead 14 (c .at)
-readField limit c (some f) =
-    cond (isField 6 0 f) (endRead (record { at = f .next; width = c .width })) (judged limit c (f .next) (decoded (c .width) f))
+unfoldable pub readField : Caller → Cursor → Option Field → Read
+readField caller c none = refusedRead 14 (c .at)
+readField caller c (some f) =
+    cond (isField 6 0 f) (endRead (record { at = f .next; width = c .width })) (judged caller c (f .next) (decoded (c .width) f))
 
--- The field at a cursor of the run, under a limit on the width. A run that is too long is 14 at 0 before its fields; a field at a width over the
--- limit stands in a wrong place, to which no run leads, and is 14 there.
-unfoldable pub readAt : ℕ → List ℕ → Cursor → Read
-readAt limit s c =
+-- The field at a cursor of the run. A run that is too long is 14 at 0 before its fields; a field at a width over the caller's greatest stands in
+-- a wrong place, to which no run leads, and is 14 there.
+unfoldable pub readAt : Caller → List ℕ → Cursor → Read
+readAt caller s c =
     cond (ltb mostBytes (length s)) (refusedRead 14 0)
-    (cond (ltb limit (c .width)) (refusedRead 14 (c .at)) (readField limit c (fieldAt s (c .at))))
+    (cond (ltb (caller .widest) (c .width)) (refusedRead 14 (c .at)) (readField caller c (fieldAt s (c .at))))

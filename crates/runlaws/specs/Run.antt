@@ -1,14 +1,15 @@
 -- A whole run: its start width and its steps, or the first refusal with its place.
-use mathlib.Core.Bool.{cond, _&&_}
+use mathlib.Core.Bool.{cond}
 use mathlib.Core.List.{List, [], _∷_}
 use mathlib.Core.Option.{Option, none, some}
 use Prim.Native.Nat.{ℕ, zero, suc}
-use lib.Dec.{leb, ltb}
+use lib.Dec.{ltb}
 use lib.Ieee.{Float}
 use lib.ListN.{length}
 use Rattle.answers.specs.Answer.{Answer}
 use Rattle.answers.specs.Answer.Answer.{accepted, refused, refusedAt}
 use Rattle.amplitudelaws.specs.Step.{Step}
+use Rattle.framelaws.specs.Caller.{Caller}
 use Rattle.runlaws.specs.Bytes.{byteAt}
 use Rattle.runlaws.specs.Field.{Field, mostBytes, fieldAt}
 use Rattle.runlaws.specs.Reading.{Cursor, Read, isField, readAt}
@@ -17,10 +18,6 @@ use Rattle.runlaws.specs.Reading.Read.{stepRead, endRead, refusedRead}
 pub record Run : Type 0 where
   pub width : ℕ
   pub steps : List (Step Float)
-
--- the widest state of the service's runs
-abbrev pub widestRun : ℕ
-widestRun = 12
 
 -- an accepted value, changed; a refusal as it was
 unfoldable pub mapped : {A B : Type 0} → (A → B) → Answer A → Answer B
@@ -40,19 +37,21 @@ follow s (refusedRead n at) rest = refusedAt n at
 
 -- The steps from a cursor on, up to the end field. A field has three bytes or more, so that the run's length is fields enough;
 -- a run that ends before its end field is refused at its length.
-unfoldable pub walk : ℕ → ℕ → List ℕ → Cursor → Answer (List (Step Float))
-walk limit zero s c = refusedAt 14 (c .at)
-walk limit (suc fuel) s c = follow s (readAt limit s c) (walk limit fuel s)
+unfoldable pub walk : Caller → ℕ → List ℕ → Cursor → Answer (List (Step Float))
+walk caller zero s c = refusedAt 14 (c .at)
+walk caller (suc fuel) s c = follow s (readAt caller s c) (walk caller fuel s)
 
--- the width that a field gives if it is a start field within the limit
-unfoldable pub startWidth : ℕ → Option Field → Option ℕ
-startWidth limit none = none
-startWidth limit (some f) = cond (isField 1 1 f && leb (byteAt (f .body) 0) limit) (some (byteAt (f .body) 0)) none
+-- the width that a field gives if it is a start field
+unfoldable pub startWidth : Option Field → Option ℕ
+startWidth none = none
+startWidth (some f) = cond (isField 1 1 f) (some (byteAt (f .body) 0)) none
 
--- the steps begin behind the start field's four bytes
-unfoldable pub begun : ℕ → List ℕ → Option ℕ → Answer Run
-begun limit s none = refusedAt 14 0
-begun limit s (some n) = mapped (λ ts. record { width = n; steps = ts }) (walk limit (length s) s (record { at = 4; width = n }))
+-- Without a start field 14, whoever calls; a start past the caller's greatest width is its own row. The steps begin behind the start field's four bytes.
+unfoldable pub begun : Caller → List ℕ → Option ℕ → Answer Run
+begun caller s none = refusedAt 14 0
+begun caller s (some n) =
+    cond (ltb (caller .widest) n) (refusedAt (caller .startRow) 0)
+    (mapped (λ ts. record { width = n; steps = ts }) (walk caller (length s) s (record { at = 4; width = n })))
 
-unfoldable pub runOf : ℕ → List ℕ → Answer Run
-runOf limit s = cond (ltb mostBytes (length s)) (refusedAt 14 0) (begun limit s (startWidth limit (fieldAt s 0)))
+unfoldable pub runOf : Caller → List ℕ → Answer Run
+runOf caller s = cond (ltb mostBytes (length s)) (refusedAt 14 0) (begun caller s (startWidth (fieldAt s 0)))

@@ -1,4 +1,4 @@
--- The frame theorem, proved: Frame.antt states it. Under any limit at which every state can still be corrected, and so at the service's.
+-- The frame theorem, proved: Frame.antt states it. For any caller whose states can all be corrected, and so for the service and for the emulator.
 use mathlib.Core.Path.{_≡_, sym, ap, _∙_, subst}
 use mathlib.Core.Bool.{true}
 use mathlib.Core.List.{List, _++_}
@@ -23,6 +23,7 @@ use Rattle.amplitudelaws.specs.Rows.{correctionRow, widthRow, roomRow, widestKe
 use Rattle.amplitudelaws.specs.State.{State, point, roomFor, room}
 use Rattle.amplitudelaws.specs.Step.{lastWidth}
 use Rattle.amplitudelaws.specs.Steps.{correction}
+use Rattle.framelaws.specs.Caller.{Caller, widestRun, widestEmulated, service, emulator}
 use Rattle.framelaws.specs.Carried.{survey-carried}
 use Rattle.framelaws.specs.Carrying.{carriedSteps, endPauli}
 use Rattle.framelaws.specs.Fitted.{fitting-end}
@@ -33,7 +34,7 @@ use Rattle.framelaws.specs.Survey.{Survey, survey}
 use Rattle.framelaws.specs.Surveyed.{survey-width, survey-greatest, survey-greatest-last}
 use Rattle.runlaws.specs.Bytes.{byteAt}
 use Rattle.runlaws.specs.Flags.{FlagIn}
-use Rattle.runlaws.specs.Run.{Run, widestRun, runOf}
+use Rattle.runlaws.specs.Run.{Run, runOf}
 use Rattle.runlaws.specs.Calls.{Ending, endingOf, surveyOf, memoryRow, running, carryingRow, carriedRun, carrying}
 use Rattle.runlaws.specs.Frame.{Agreeing, fired, sent, Accepted, Frame, FrameTheorem}
 use Rattle.runlaws.specs.Altered.{altered}
@@ -74,14 +75,14 @@ fired-done P m h = ap (λ (S : State). record { state = S; scratch = m .scratch 
 
 -- ---- the accepted half
 
-module _ (limit : ℕ) (narrow : limit ≤ widestKernel) (s out : List ℕ) (Q : Pauli) (m u : Memory) where
+module _ (caller : Caller) (narrow : caller .widest ≤ widestKernel) (s out : List ℕ) (Q : Pauli) (m u : Memory) where
   -- the carried run
   abbrev t : List ℕ
-  t = sent limit s Q out
+  t = sent caller s Q out
 
-  module _ (R : Run) (read : runOf limit s ≡ accepted R) (here : memoryRow (surveyOf R) m ≡ 0) (there : memoryRow (surveyOf R) u ≡ 0)
-      (admitted : Admitted Q) (width : Q .n ≡ R .width) (answer : carrying limit s Q out .answer ≡ accepted (endPauli Q (R .steps)))
-      (output : carrying limit s Q out .lent ≡ carriedRun Q R s ++ drop (length s) out) (agree : Agreeing (Q .n) (m .state) (u .state)) where
+  module _ (R : Run) (read : runOf caller s ≡ accepted R) (here : memoryRow (surveyOf R) m ≡ 0) (there : memoryRow (surveyOf R) u ≡ 0)
+      (admitted : Admitted Q) (width : Q .n ≡ R .width) (answer : carrying caller s Q out .answer ≡ accepted (endPauli Q (R .steps)))
+      (output : carrying caller s Q out .lent ≡ carriedRun Q R s ++ drop (length s) out) (agree : Agreeing (Q .n) (m .state) (u .state)) where
     -- the run that the carried bytes are read as
     abbrev carriedOf : Run
     carriedOf = record { width = R .width; steps = carriedSteps Q (R .steps) }
@@ -116,17 +117,17 @@ module _ (limit : ℕ) (narrow : limit ≤ widestKernel) (s out : List ℕ) (Q :
     unfolding surveyOf
     last-width = survey-width (R .width) (R .steps)
 
-    sent-read : runOf limit t ≡ accepted carriedOf
-    sent-read = rw is-sent (reread limit s Q R read)
+    sent-read : runOf caller t ≡ accepted carriedOf
+    sent-read = rw is-sent (reread caller s Q R read)
 
-    sent-runs : (running limit t u .answer ≡ accepted E) × (running limit t u .lent ≡ ran (R .width) (carriedSteps Q (R .steps)) u)
+    sent-runs : (running caller t u .answer ≡ accepted E) × (running caller t u .lent ≡ ran (R .width) (carriedSteps Q (R .steps)) u)
     sent-runs =
-        let known = running-answers limit t u carriedOf sent-read (rw same-survey there) in
+        let known = running-answers caller t u carriedOf sent-read (rw same-survey there) in
         (known .0 ∙ ap (λ (v : Survey). accepted (endingOf v)) same-survey, known .1)
 
-    sent-carries : (o : List ℕ) → length s ≤ length o → isAccepted (carrying limit t Q o .answer) ≡ true
+    sent-carries : (o : List ℕ) → length s ≤ length o → isAccepted (carrying caller t Q o .answer) ≡ true
     unfolding isAccepted
-    sent-carries o h = rw (carrying-answers limit t Q o carriedOf sent-read (may-carry Q (R .width) (length t) (length o) admitted width (rw size h)) .0)
+    sent-carries o h = rw (carrying-answers caller t Q o carriedOf sent-read (may-carry Q (R .width) (length t) (length o) admitted width (rw size h)) .0)
 
     shot-room : memoryRow (surveyOf R) (shot Q m) ≡ 0
     unfolding correction
@@ -134,18 +135,18 @@ module _ (limit : ℕ) (narrow : limit ≤ widestKernel) (s out : List ℕ) (Q :
         let both = room-both (surveyOf R) m here in
         room-row (surveyOf R) (shot Q m) (room-kept (surveyOf R .greatest) (written-lengths (Q .n) (corrected binary Q (point (m .state))) (m .state)) (both .0)) (both .1)
 
-    shot-runs : (running limit s (shot Q m) .answer ≡ accepted E) × (running limit s (shot Q m) .lent ≡ ran (R .width) (R .steps) (shot Q m))
-    shot-runs = running-answers limit s (shot Q m) R read shot-room
+    shot-runs : (running caller s (shot Q m) .answer ≡ accepted E) × (running caller s (shot Q m) .lent ≡ ran (R .width) (R .steps) (shot Q m))
+    shot-runs = running-answers caller s (shot Q m) R read shot-room
 
-    assembled : Frame limit s out Q m u
+    assembled : Frame caller s out Q m u
     assembled =
-        let run = run-allowed limit s R read in
+        let run = run-allowed caller s R read in
         let fitting = admitted .fitting in
         let g : ℕ = surveyOf R .greatest in
         let roomM : room g (m .state) ≡ true = room-both (surveyOf R) m here .0 in
         let roomU : room g (u .state) ≡ true = room-both (surveyOf R) u there .0 in
         let wide : R .width ≤ g = le-trans (survey-greatest (R .width) (R .steps)) greatest in
-        let final = fitting-end limit (R .width) Q (R .steps) (run .width) (run .allowed) fitting width in
+        let final = fitting-end caller (R .width) Q (R .steps) (run .width) (run .allowed) fitting width in
         let near : end .n ≤ widestKernel = rw (final .width) (le-trans (final .within) narrow) in
         let admitted-end : Admitted end = record { fitting = final .fitting; width = le-trans near (leb→le widestKernel mostQubits tt) } in
         let far : last ≤ g = le-trans (survey-greatest-last (R .width) (R .steps)) greatest in
@@ -169,36 +170,39 @@ module _ (limit : ℕ) (narrow : limit ≤ widestKernel) (s out : List ℕ) (Q :
           again = sent-carries;
           behind = rw (sent-runs .1) behind;
           same = λ finite b h.
-              let alike = frame-over-steps limit g (R .steps) (R .width) Q m u (run .width) (run .allowed) fitting width roomM roomU greatest (finite carriedOf sent-read)
+              let alike = frame-over-steps caller g (R .steps) (R .width) Q m u (run .width) (run .allowed) fitting width roomM roomU greatest (finite carriedOf sent-read)
               (λ b h. agree .at b (rw width h)) b (rw last-width at h) in
               rw (sent-runs .1, fired-done Q m before, shot-runs .1, fired-done end (ran (R .width) (carriedSteps Q (R .steps)) u) behind)
               (same-says _ _ (alike .res), same-says _ _ (alike .ims));
         }
 
-  accepted-half : Accepted limit s out Q m u → Frame limit s out Q m u
+  accepted-half : Accepted caller s out Q m u → Frame caller s out Q m u
   accepted-half a =
-      let one = running-done limit s m _ (accepted-value (running limit s m .answer) (a .here) .is) in
-      let two = running-done limit s u _ (accepted-value (running limit s u .answer) (a .there) .is) in
-      let three = carrying-done limit s Q out _ (accepted-value (carrying limit s Q out .answer) (a .carries) .is) in
+      let one = running-done caller s m _ (accepted-value (running caller s m .answer) (a .here) .is) in
+      let two = running-done caller s u _ (accepted-value (running caller s u .answer) (a .there) .is) in
+      let three = carrying-done caller s Q out _ (accepted-value (carrying caller s Q out .answer) (a .carries) .is) in
       let R : Run = one .run in
       let again : two .run ≡ R = accepted-same (sym (two .was) ∙ one .was) in
       let third : three .run ≡ R = accepted-same (sym (three .was) ∙ one .was) in
       let row = subst (λ (r : Run). carryingRow Q (r .width) (length s) (length out) ≡ 0) third (three .passed) in
       let pauli = carrying-passed Q (R .width) (length s) (length out) row in
-      let carries = carrying-answers limit s Q out R (one .was) row in
+      let carries = carrying-answers caller s Q out R (one .was) row in
       assembled R (one .was) (one .passed) (subst (λ (r : Run). memoryRow (surveyOf r) u ≡ 0) again (two .passed)) (pauli .0) (pauli .1) (carries .0) (carries .1) (a .start)
 
 -- ---- the theorem
 
--- THE FRAME THEOREM under any limit at which every state can be corrected
-pub frame : (limit : ℕ) → limit ≤ widestKernel → FrameTheorem limit
-frame limit narrow = record {
-  accepts = accepted-half limit narrow;
-  refused-run = running-kept limit;
-  refused-carrying = λ s out Q. carrying-kept limit s Q out;
+-- THE FRAME THEOREM for any caller whose states can all be corrected
+pub frame : (caller : Caller) → caller .widest ≤ widestKernel → FrameTheorem caller
+frame caller narrow = record {
+  accepts = accepted-half caller narrow;
+  refused-run = running-kept caller;
+  refused-carrying = λ s out Q. carrying-kept caller s Q out;
   refused-correction = fired-refused;
 }
 
--- and at the service's, which is what the calls run_contiguous and carry_run promise
-pub frame-at-the-service : FrameTheorem widestRun
-frame-at-the-service = frame widestRun (leb→le widestRun widestKernel tt)
+-- and so for the service, which is what the calls run_contiguous and carry_run promise, and for the emulator: run_emulated and carry_emulated
+pub frame-at-the-service : FrameTheorem service
+frame-at-the-service = frame service (leb→le widestRun widestKernel tt)
+
+pub frame-at-the-emulator : FrameTheorem emulator
+frame-at-the-emulator = frame emulator (leb→le widestEmulated widestKernel tt)

@@ -12,6 +12,7 @@ use Rattle.answers.specs.Answer.{Answer}
 use Rattle.answers.specs.Answer.Answer.{accepted, refusedAt}
 use Rattle.answers.specs.Row.{refusedAt-accepted}
 use Rattle.amplitudelaws.specs.Step.{Step}
+use Rattle.framelaws.specs.Caller.{Caller}
 use Rattle.framelaws.specs.Allowed.{Allowed}
 use Rattle.runlaws.specs.Field.{mostBytes}
 use Rattle.runlaws.specs.Reading.{Cursor, Read, readField, readAt}
@@ -21,22 +22,22 @@ use Rattle.runlaws.specs.Fields.{field-past, step-read, size-ge}
 use Rattle.runlaws.specs.Mapped.{mapped-accepted}
 
 -- with fuel for what is left of a run that is not too long it goes by the read at its cursor
-pub walk-by : (limit fuel : ℕ) (s : List ℕ) (c : Cursor) → length s ≤ mostBytes → length s ≤ c .at + fuel
-    → walk limit fuel s c ≡ follow s (readAt limit s c) (walk limit (fuel - 1) s)
+pub walk-by : (caller : Caller) (fuel : ℕ) (s : List ℕ) (c : Cursor) → length s ≤ mostBytes → length s ≤ c .at + fuel
+    → walk caller fuel s c ≡ follow s (readAt caller s c) (walk caller (fuel - 1) s)
 unfolding walk follow readAt readField
-walk-by limit zero s c short h = rw (le-ltb mostBytes (length s) short, field-past s (c .at) (omega arith)) (go (ltb limit (c .width)))
+walk-by caller zero s c short h = rw (le-ltb mostBytes (length s) short, field-past s (c .at) (omega arith)) (go (ltb (caller .widest) (c .width)))
   where
-    go : (q : Bool) → refusedAt 14 (c .at) ≡ follow s (cond q (refusedRead 14 (c .at)) (refusedRead 14 (c .at))) (walk limit (0 - 1) s)
+    go : (q : Bool) → refusedAt 14 (c .at) ≡ follow s (cond q (refusedRead 14 (c .at)) (refusedRead 14 (c .at))) (walk caller (0 - 1) s)
     go true = refl
     go false = refl
-walk-by limit (suc fuel) s c short h = let less : suc fuel - 1 ≡ fuel = omega arith in rw less
+walk-by caller (suc fuel) s c short h = let less : suc fuel - 1 ≡ fuel = omega arith in rw less
 
 -- a step and what the walk behind it gives
-pub walk-step : (limit fuel : ℕ) (s : List ℕ) (c d : Cursor) (t : Step Float) (ts : List (Step Float))
-    → length s ≤ mostBytes → length s ≤ c .at + fuel → readAt limit s c ≡ stepRead t d → walk limit (fuel - 1) s d ≡ accepted ts
-    → walk limit fuel s c ≡ accepted (t ∷ ts)
+pub walk-step : (caller : Caller) (fuel : ℕ) (s : List ℕ) (c d : Cursor) (t : Step Float) (ts : List (Step Float))
+    → length s ≤ mostBytes → length s ≤ c .at + fuel → readAt caller s c ≡ stepRead t d → walk caller (fuel - 1) s d ≡ accepted ts
+    → walk caller fuel s c ≡ accepted (t ∷ ts)
 unfolding follow mapped
-walk-step limit fuel s c d t ts short h e rest = walk-by limit fuel s c short h ∙ rw (e, rest)
+walk-step caller fuel s c d t ts short h e rest = walk-by caller fuel s c short h ∙ rw (e, rest)
 
 -- a run's end field stands last
 module _ (s : List ℕ) (c : Cursor) where
@@ -49,27 +50,27 @@ module _ (s : List ℕ) (c : Cursor) where
       go false h e = (ltb-false (c .at) (length s) h, cc)
 
 -- an accepted walk whose first step is t
-pub record First (limit fuel : ℕ) (s : List ℕ) (c : Cursor) (t : Step Float) (ts : List (Step Float)) : Type 0 where
+pub record First (caller : Caller) (fuel : ℕ) (s : List ℕ) (c : Cursor) (t : Step Float) (ts : List (Step Float)) : Type 0 where
   pub behind : Cursor
-  pub read : readAt limit s c ≡ stepRead t behind
+  pub read : readAt caller s c ≡ stepRead t behind
   pub enough : length s ≤ behind .at + (fuel - 1)
-  pub walked : walk limit (fuel - 1) s behind ≡ accepted ts
+  pub walked : walk caller (fuel - 1) s behind ≡ accepted ts
 
 -- one that has no step
-pub record Last (limit : ℕ) (s : List ℕ) (c : Cursor) : Type 0 where
+pub record Last (caller : Caller) (s : List ℕ) (c : Cursor) : Type 0 where
   pub behind : Cursor
-  pub read : readAt limit s c ≡ endRead behind
+  pub read : readAt caller s c ≡ endRead behind
   pub long : length s ≤ behind .at
 
-module _ (limit fuel : ℕ) (s : List ℕ) (c : Cursor) (short : length s ≤ mostBytes) (enough : length s ≤ c .at + fuel) where
-  pub first-step : (t : Step Float) (ts : List (Step Float)) → walk limit fuel s c ≡ accepted (t ∷ ts) → First limit fuel s c t ts
+module _ (caller : Caller) (fuel : ℕ) (s : List ℕ) (c : Cursor) (short : length s ≤ mostBytes) (enough : length s ≤ c .at + fuel) where
+  pub first-step : (t : Step Float) (ts : List (Step Float)) → walk caller fuel s c ≡ accepted (t ∷ ts) → First caller fuel s c t ts
   unfolding follow
-  first-step t ts e = go (readAt limit s c) refl (sym (walk-by limit fuel s c short enough) ∙ e)
+  first-step t ts e = go (readAt caller s c) refl (sym (walk-by caller fuel s c short enough) ∙ e)
     where
-      go : (r : Read) → readAt limit s c ≡ r → follow s r (walk limit (fuel - 1) s) ≡ accepted (t ∷ ts) → First limit fuel s c t ts
+      go : (r : Read) → readAt caller s c ≡ r → follow s r (walk caller (fuel - 1) s) ≡ accepted (t ∷ ts) → First caller fuel s c t ts
       go (stepRead t' d) h e =
-          let m = mapped-accepted (λ (ts : List (Step Float)). t' ∷ ts) (walk limit (fuel - 1) s d) (t ∷ ts) e in
-          let r = step-read limit s c d t' h in
+          let m = mapped-accepted (λ (ts : List (Step Float)). t' ∷ ts) (walk caller (fuel - 1) s d) (t ∷ ts) e in
+          let r = step-read caller s c d t' h in
           let head : t' ≡ t = cc in
           let tail : m .value ≡ ts = cc in
           record {
@@ -81,60 +82,60 @@ module _ (limit fuel : ℕ) (s : List ℕ) (c : Cursor) (short : length s ≤ mo
       go (endRead d) h e = absurd (let n = ended-accepted s d (t ∷ ts) e .1 in let z : _≡_ {A = ℕ} 0 1 = cc in omega arith)
       go (refusedRead n at) h e = absurd (refusedAt-accepted e)
 
-  pub last-field : walk limit fuel s c ≡ accepted [] → Last limit s c
+  pub last-field : walk caller fuel s c ≡ accepted [] → Last caller s c
   unfolding follow
-  last-field e = go (readAt limit s c) refl (sym (walk-by limit fuel s c short enough) ∙ e)
+  last-field e = go (readAt caller s c) refl (sym (walk-by caller fuel s c short enough) ∙ e)
     where
-      go : (r : Read) → readAt limit s c ≡ r → follow s r (walk limit (fuel - 1) s) ≡ accepted [] → Last limit s c
+      go : (r : Read) → readAt caller s c ≡ r → follow s r (walk caller (fuel - 1) s) ≡ accepted [] → Last caller s c
       go (stepRead t d) h e =
-          let m = mapped-accepted (λ (ts : List (Step Float)). t ∷ ts) (walk limit (fuel - 1) s d) [] e in
+          let m = mapped-accepted (λ (ts : List (Step Float)). t ∷ ts) (walk caller (fuel - 1) s d) [] e in
           absurd (let z : _≡_ {A = ℕ} 0 1 = cc (m .is) in omega arith)
       go (endRead d) h e = record { behind = d; read = h; long = ended-accepted s d [] e .0 }
       go (refusedRead n at) h e = absurd (refusedAt-accepted e)
 
 -- the steps of an accepted walk are allowed
-pub walk-allowed : (limit fuel : ℕ) (s : List ℕ) (c : Cursor) (ts : List (Step Float)) → length s ≤ mostBytes → length s ≤ c .at + fuel
-    → walk limit fuel s c ≡ accepted ts → Allowed limit (c .width) ts
-walk-allowed limit fuel s c [] short h e = tt
-walk-allowed limit fuel s c (t ∷ ts) short h e =
-    let k = first-step limit fuel s c short h t ts e in
-    let r = step-read limit s c (k .behind) t (k .read) in
-    (r .placed, r .row, rw (r .width) at (walk-allowed limit (fuel - 1) s (k .behind) ts short (k .enough) (k .walked)))
+pub walk-allowed : (caller : Caller) (fuel : ℕ) (s : List ℕ) (c : Cursor) (ts : List (Step Float)) → length s ≤ mostBytes → length s ≤ c .at + fuel
+    → walk caller fuel s c ≡ accepted ts → Allowed caller (c .width) ts
+walk-allowed caller fuel s c [] short h e = tt
+walk-allowed caller fuel s c (t ∷ ts) short h e =
+    let k = first-step caller fuel s c short h t ts e in
+    let r = step-read caller s c (k .behind) t (k .read) in
+    (r .placed, r .row, rw (r .width) at (walk-allowed caller (fuel - 1) s (k .behind) ts short (k .enough) (k .walked)))
 
 -- What a loop over a run keeps: the walk from its cursor, with fuel for what is left, gives `rest`.
-pub record Left (limit : ℕ) (s : List ℕ) (c : Cursor) (rest : Answer (List (Step Float))) : Type 0 where
+pub record Left (caller : Caller) (s : List ℕ) (c : Cursor) (rest : Answer (List (Step Float))) : Type 0 where
   pub fuel : ℕ
   pub short : length s ≤ mostBytes
   pub enough : length s ≤ c .at + fuel
-  pub same : walk limit fuel s c ≡ rest
+  pub same : walk caller fuel s c ≡ rest
   pub inside : c .at ≤ length s
 
-pub left-outset : (limit : ℕ) (s : List ℕ) (c : Cursor) → length s ≤ mostBytes → c .at ≤ length s → Left limit s c (walk limit (length s) s c)
-left-outset limit s c short h = record { fuel = length s; short = short; enough = omega arith; same = refl; inside = h }
+pub left-outset : (caller : Caller) (s : List ℕ) (c : Cursor) → length s ≤ mostBytes → c .at ≤ length s → Left caller s c (walk caller (length s) s c)
+left-outset caller s c short h = record { fuel = length s; short = short; enough = omega arith; same = refl; inside = h }
 
 -- behind a step
-pub record Next (limit : ℕ) (s : List ℕ) (d : Cursor) (t : Step Float) (rest : Answer (List (Step Float))) : Type 0 where
+pub record Next (caller : Caller) (s : List ℕ) (d : Cursor) (t : Step Float) (rest : Answer (List (Step Float))) : Type 0 where
   pub after : Answer (List (Step Float))
   pub rest-is : rest ≡ mapped (λ (ts : List (Step Float)). t ∷ ts) after
-  pub left : Left limit s d after
+  pub left : Left caller s d after
 
 -- behind a step of a run that is accepted
-pub record AcceptedNext (limit : ℕ) (s : List ℕ) (d : Cursor) (t : Step Float) (ts : List (Step Float)) : Type 0 where
+pub record AcceptedNext (caller : Caller) (s : List ℕ) (d : Cursor) (t : Step Float) (ts : List (Step Float)) : Type 0 where
   pub after : List (Step Float)
   pub rest-is : ts ≡ t ∷ after
-  pub left : Left limit s d (accepted after)
+  pub left : Left caller s d (accepted after)
 
-module _ {limit : ℕ} {s : List ℕ} {c : Cursor} where
-  module _ {rest : Answer (List (Step Float))} (l : Left limit s c rest) where
-    by-read : (r : Read) → readAt limit s c ≡ r → rest ≡ follow s r (walk limit (l .fuel - 1) s)
-    by-read r e = sym (l .same) ∙ walk-by limit (l .fuel) s c (l .short) (l .enough) ∙ rw e
+module _ {caller : Caller} {s : List ℕ} {c : Cursor} where
+  module _ {rest : Answer (List (Step Float))} (l : Left caller s c rest) where
+    by-read : (r : Read) → readAt caller s c ≡ r → rest ≡ follow s r (walk caller (l .fuel - 1) s)
+    by-read r e = sym (l .same) ∙ walk-by caller (l .fuel) s c (l .short) (l .enough) ∙ rw e
 
-    pub left-step : (t : Step Float) (d : Cursor) → readAt limit s c ≡ stepRead t d → Next limit s d t rest
+    pub left-step : (t : Step Float) (d : Cursor) → readAt caller s c ≡ stepRead t d → Next caller s d t rest
     unfolding follow
     left-step t d e =
-        let r = step-read limit s c d t e in
+        let r = step-read caller s c d t e in
         record {
-          after = walk limit (l .fuel - 1) s d;
+          after = walk caller (l .fuel - 1) s d;
           rest-is = by-read (stepRead t d) e;
           left = record {
             fuel = l .fuel - 1;
@@ -145,23 +146,23 @@ module _ {limit : ℕ} {s : List ℕ} {c : Cursor} where
           };
         }
 
-    pub left-end : (d : Cursor) → readAt limit s c ≡ endRead d → rest ≡ ended s d
+    pub left-end : (d : Cursor) → readAt caller s c ≡ endRead d → rest ≡ ended s d
     unfolding follow
     left-end d e = by-read (endRead d) e
 
-    pub left-refused : (n at : ℕ) → readAt limit s c ≡ refusedRead n at → rest ≡ refusedAt n at
+    pub left-refused : (n at : ℕ) → readAt caller s c ≡ refusedRead n at → rest ≡ refusedAt n at
     unfolding follow
     left-refused n at e = by-read (refusedRead n at) e
 
-  module _ {ts : List (Step Float)} (l : Left limit s c (accepted ts)) where
-    pub accepted-step : (t : Step Float) (d : Cursor) → readAt limit s c ≡ stepRead t d → AcceptedNext limit s d t ts
+  module _ {ts : List (Step Float)} (l : Left caller s c (accepted ts)) where
+    pub accepted-step : (t : Step Float) (d : Cursor) → readAt caller s c ≡ stepRead t d → AcceptedNext caller s d t ts
     accepted-step t d e =
         let k = left-step l t d e in
         let m = mapped-accepted (λ (ts : List (Step Float)). t ∷ ts) (k .after) ts (sym (k .rest-is)) in
-        record { after = m .value; rest-is = m .is; left = subst (Left limit s d) (m .was) (k .left) }
+        record { after = m .value; rest-is = m .is; left = subst (Left caller s d) (m .was) (k .left) }
 
-    pub accepted-end : (d : Cursor) → readAt limit s c ≡ endRead d → ts ≡ []
+    pub accepted-end : (d : Cursor) → readAt caller s c ≡ endRead d → ts ≡ []
     accepted-end d e = ended-accepted s d ts (sym (left-end l d e)) .1
 
-    pub accepted-refused : (n at : ℕ) → readAt limit s c ≡ refusedRead n at → ⊥
+    pub accepted-refused : (n at : ℕ) → readAt caller s c ≡ refusedRead n at → ⊥
     accepted-refused n at e = refusedAt-accepted (sym (left-refused l n at e))

@@ -5,6 +5,7 @@ use Prim.Native.Nat.{ℕ}
 use Rattle.answers.specs.Answer.{Answer}
 use Rattle.answers.specs.Answer.Answer.{accepted, refused, refusedAt}
 use Rattle.answers.specs.Row.{answered-none, refusing}
+use Rattle.framelaws.specs.Caller.{Caller}
 use Rattle.framelaws.specs.Survey.{Survey}
 use Rattle.framelaws.specs.Memory.{Memory, ran}
 use Rattle.runlaws.specs.Run.{runOf}
@@ -12,25 +13,25 @@ use Rattle.runlaws.specs.Calls.{Ending, CheckedRun, checkedRunOf, endingOf, onR
 use Rattle.runlaws.specs.Mapped.{From, mapped-accepted, mapped-refused}
 use Rattle.runner.specs.Ready.{RunReady}
 
-module _ (limit : ℕ) (s : List ℕ) (m : Memory) where
+module _ (caller : Caller) (s : List ℕ) (m : Memory) where
   -- the answer a, and u left
   abbrev pub Runs : Answer Ending → Memory → Type 0
-  Runs a u = (a ≡ running limit s m .answer) × (u ≡ running limit s m .lent)
+  Runs a u = (a ≡ running caller s m .answer) × (u ≡ running caller s m .lent)
 
-  pub runs-refused : (n at : ℕ) → checkingWithStart limit s ≡ refusedAt n at → Runs (refusedAt n at) m
+  pub runs-refused : (n at : ℕ) → checkingWithStart caller s ≡ refusedAt n at → Runs (refusedAt n at) m
   unfolding checkingWithStart running onRun
-  runs-refused n at e = rw (mapped-refused checkedRunOf (runOf limit s) n at e) (refl, refl)
+  runs-refused n at e = rw (mapped-refused checkedRunOf (runOf caller s) n at e) (refl, refl)
 
-  module _ (start : ℕ) (v : Survey) (e : checkingWithStart limit s ≡ accepted (record { start = start; survey = v })) where
-    checked : From checkedRunOf (runOf limit s) (record { start = start; survey = v })
+  module _ (start : ℕ) (v : Survey) (e : checkingWithStart caller s ≡ accepted (record { start = start; survey = v })) where
+    checked : From checkedRunOf (runOf caller s) (record { start = start; survey = v })
     unfolding checkingWithStart
-    checked = mapped-accepted checkedRunOf (runOf limit s) (record { start = start; survey = v }) e
+    checked = mapped-accepted checkedRunOf (runOf caller s) (record { start = start; survey = v }) e
 
     survey-is : v ≡ surveyOf (checked .value)
     survey-is = ap (λ (k : CheckedRun). k .survey) (checked .is)
 
     -- by row 13
-    by-memory : running limit s m ≡ byRow (memoryRow v m) (endingOf v) (ran (checked .value .width) (checked .value .steps) m) m
+    by-memory : running caller s m ≡ byRow (memoryRow v m) (endingOf v) (ran (checked .value .width) (checked .value .steps) m) m
     unfolding running onRun
     by-memory =
         let end = ran (checked .value .width) (checked .value .steps) m in
@@ -40,7 +41,7 @@ module _ (limit : ℕ) (s : List ℕ) (m : Memory) where
     runs-short r h ne = rw by-memory (refusing (memoryRow v m) (endingOf v) _ m r h ne)
 
     module _ (h : memoryRow v m ≡ 0) where
-      pub runs-ready : RunReady limit s start m
+      pub runs-ready : RunReady caller s start m
       runs-ready = record {
         run = checked .value;
         is = checked .was;
@@ -48,5 +49,5 @@ module _ (limit : ℕ) (s : List ℕ) (m : Memory) where
         row = rw (← survey-is) h;
       }
 
-      pub runs-finished : {u : Memory} → u ≡ running limit s m .lent → Runs (accepted (endingOf v)) u
+      pub runs-finished : {u : Memory} → u ≡ running caller s m .lent → Runs (accepted (endingOf v)) u
       runs-finished done = (rw by-memory (sym (answered-none (memoryRow v m) (endingOf v) h)), done)

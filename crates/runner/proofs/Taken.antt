@@ -43,8 +43,8 @@ module _ {n : ℕ} {m : Memory} where
   promotion-row : (c q : Float) → StepReady n (promotion c q) m → promotionRow n c q (m .state) ≡ 0
   unfolding promotionRow stepRow promotionStepRow widthAfter
   promotion-row c q r =
-      let rows = first-passed (promotedWidthRow n) (first (unitRow c q) (row (leb (r .limit) n) 15 0)) (r .row) in
-      let units = first-passed (unitRow c q) (row (leb (r .limit) n) 15 0) (rows .1) .0 in
+      let rows = first-passed (promotedWidthRow n) (first (unitRow c q) (row (leb (r .caller .widest) n) (r .caller .promotionRow) 0)) (r .row) in
+      let units = first-passed (unitRow c q) (row (leb (r .caller .widest) n) (r .caller .promotionRow) 0) (rows .1) .0 in
       first-none (promotedWidthRow n) _ (rows .0) ∙ with-room (unitRow c q) (room (suc n) (m .state)) units (r .behind)
 
   projection-row : (M : Pauli) (p v : ℕ) (invnorm : Float) → StepReady n (projection M p v invnorm) m

@@ -1,5 +1,6 @@
 // Running: the steps of a run on lent amplitudes, one after the other. The run is checked whole first, so
 // that a refused run leaves all four buffers as they were.
+use callers::Caller;
 use checker::Checked;
 use checker::Survey;
 use steps::Cursor;
@@ -11,9 +12,10 @@ ghost use Rattle.answers.specs.Answer.Answer.{accepted};
 ghost use Rattle.amplitudelaws.specs.Rows.{roomRow};
 ghost use Rattle.amplitudelaws.specs.State.{roomFor, room};
 ghost use Rattle.amplitudelaws.specs.Lent.{memory, lentMemory};
+ghost use Rattle.framelaws.specs.Caller.{service, emulator};
 ghost use Rattle.framelaws.specs.Memory.{stepped};
-ghost use Rattle.runlaws.specs.Run.{widestRun};
-ghost use Rattle.runlaws.specs.Calls.{checkingWithStart, running};
+ghost use Rattle.runlaws.specs.Calls.{CheckedRun, checkingWithStart, running};
+ghost use Rattle.callers.specs.Meaning.{callerOf};
 ghost use Rattle.steps.specs.Meaning.{stepOf};
 ghost use Rattle.checker.specs.Meaning.{surveyFieldsOf};
 ghost use Rattle.runner.specs.Meaning.{runAnswerOf};
@@ -26,6 +28,7 @@ pub enum RunAnswer {
     RefusedAt(u8, usize),
 }
 
+// A run of the service.
 pub fn run_contiguous(
     run: &[u8],
     re: &mut [f64],
@@ -34,26 +37,40 @@ pub fn run_contiguous(
     scratch_im: &mut [f64],
 ) -> RunAnswer
     ensures { λ r. let m = memory re im «scratch_re» «scratch_im» in
-        let did = running widestRun (now (run .entry)) (m .entry) in
+        let did = running service (now (run .entry)) (m .entry) in
         ⌜ (runAnswerOf r ≡ did .answer) × (m .exit ≡ did .lent) ⌝ }
 {
-    run_within(run, re, im, scratch_re, scratch_im, checker::WIDEST_RUN)
+    run_for(run, re, im, scratch_re, scratch_im, Caller::service())
 }
 
-// Under any limit on the width.
-fn run_within(
+// A run of the emulator.
+pub fn run_emulated(
     run: &[u8],
     re: &mut [f64],
     im: &mut [f64],
     scratch_re: &mut [f64],
     scratch_im: &mut [f64],
-    limit: usize,
 ) -> RunAnswer
     ensures { λ r. let m = memory re im «scratch_re» «scratch_im» in
-        let did = running limit (now (run .entry)) (m .entry) in
+        let did = running emulator (now (run .entry)) (m .entry) in
         ⌜ (runAnswerOf r ≡ did .answer) × (m .exit ≡ did .lent) ⌝ }
 {
-    match checker::check_with_start(run, limit) {
+    run_for(run, re, im, scratch_re, scratch_im, Caller::Emulator)
+}
+
+fn run_for(
+    run: &[u8],
+    re: &mut [f64],
+    im: &mut [f64],
+    scratch_re: &mut [f64],
+    scratch_im: &mut [f64],
+    caller: Caller,
+) -> RunAnswer
+    ensures { λ r. let m = memory re im «scratch_re» «scratch_im» in
+        let did = running (callerOf caller) (now (run .entry)) (m .entry) in
+        ⌜ (runAnswerOf r ≡ did .answer) × (m .exit ≡ did .lent) ⌝ }
+{
+    match checker::check_with_start(run, caller) {
         Checked::Refused(row, at) => RunAnswer::RefusedAt(row, at),
         Checked::Run(start, survey) => run_checked(
             run,
@@ -61,7 +78,7 @@ fn run_within(
             im,
             scratch_re,
             scratch_im,
-            limit,
+            caller,
             start,
             survey,
         ),
@@ -75,13 +92,14 @@ fn run_checked(
     im: &mut [f64],
     scratch_re: &mut [f64],
     scratch_im: &mut [f64],
-    limit: usize,
+    caller: Caller,
     start: usize,
     survey: Survey,
 ) -> RunAnswer
-    requires { ⌜ checkingWithStart limit (now run) ≡ accepted (record { start = start; survey = surveyFieldsOf survey }) ⌝ }
+    requires { let checked : CheckedRun = record { start = start; survey = surveyFieldsOf survey } in
+        ⌜ checkingWithStart (callerOf caller) (now run) ≡ accepted checked ⌝ }
     ensures { λ r. let m = memory re im «scratch_re» «scratch_im» in
-        let did = running limit (now (run .entry)) (m .entry) in
+        let did = running (callerOf caller) (now (run .entry)) (m .entry) in
         ⌜ (runAnswerOf r ≡ did .answer) × (m .exit ≡ did .lent) ⌝ }
 {
     let row = memory_row(
@@ -95,7 +113,7 @@ fn run_checked(
     if row != 0 {
         return RunAnswer::Refused(row);
     }
-    run_steps(run, re, im, scratch_re, scratch_im, limit, start);
+    run_steps(run, re, im, scratch_re, scratch_im, caller, start);
     RunAnswer::Finished {
         width: survey.width,
         steps: survey.steps,
@@ -127,19 +145,19 @@ fn run_steps(
     im: &mut [f64],
     scratch_re: &mut [f64],
     scratch_im: &mut [f64],
-    limit: usize,
+    caller: Caller,
     width: usize,
 )
-    requires { ⌜ RunReady limit (now run) width (lentMemory re im «scratch_re» «scratch_im») ⌝ }
+    requires { ⌜ RunReady (callerOf caller) (now run) width (lentMemory re im «scratch_re» «scratch_im») ⌝ }
     ensures { λ _. let m = memory re im «scratch_re» «scratch_im» in
-        ⌜ m .exit ≡ running limit (now (run .entry)) (m .entry) .lent ⌝ }
+        ⌜ m .exit ≡ running (callerOf caller) (now (run .entry)) (m .entry) .lent ⌝ }
 {
     let mut cursor = Cursor {
         at: fields::START_BYTES,
         width,
     };
     loop {
-        let got = reader::read(run, cursor, limit);
+        let got = reader::read(run, cursor, caller);
         let Read::Step(step, next) = got else {
             break;
         };

@@ -16,7 +16,7 @@ const CASES: u64 = 3_000_000;
 const SEED: u64 = 1;
 
 /// The rows that each call has, 0 where none refuses it.
-const WANTED: [(&str, &[u8]); 44] = [
+const WANTED: [(&str, &[u8]); 54] = [
     ("read", &[0, 3, 6, 7, 8, 9, 10, 11, 12, 14, 15]),
     ("read a quarter turn", &[0, 3, 6, 7, 14]),
     ("check_run", &[0, 3, 7, 8, 9, 10, 11, 12, 14, 15]),
@@ -27,6 +27,16 @@ const WANTED: [(&str, &[u8]); 44] = [
     ("serve, caller's", &[13]),
     ("carry", &[0, 3, 7, 8, 9, 10, 11, 12, 14, 15]),
     ("carry, caller's", &[3, 4, 16]),
+    ("read_emulated", &[0, 3, 7, 8, 9, 10, 11, 12, 14, 21]),
+    ("read_emulated, a quarter turn", &[0, 3, 7, 14]),
+    ("check_emulated", &[0, 3, 7, 8, 9, 10, 11, 12, 14, 21]),
+    ("check_emulated, first field", &[14, 21]),
+    ("run_emulated", &[0, 3, 7, 8, 9, 10, 11, 12, 14, 21]),
+    ("run_emulated, caller's", &[13]),
+    ("serve_emulated", &[0, 3, 7, 8, 9, 10, 11, 12, 14, 21]),
+    ("serve_emulated, caller's", &[13]),
+    ("carry_emulated", &[0, 3, 7, 8, 9, 10, 11, 12, 14, 21]),
+    ("carry_emulated, caller's", &[3, 4, 16]),
     ("past", &[0, 3, 4, 10, 14]),
     ("past a quarter turn", &[0, 3, 4]),
     ("listing", &[0, 16]),

@@ -1,17 +1,20 @@
-//! frames [RUNS] [SEED] [heap]: demand 3 on random runs and on all single steps of few qubits.
+//! frames [RUNS] [SEED] [heap]: demand 3 on random runs and on all single steps of few qubits, by the service's calls and,
+//! where the emulator takes the run, by its calls too; and that the two callers leave the same state and carry alike.
 //!
 //! Run i throws the dice of SEED + i. Ends with 1 if anything is wrong, or if something that the program is
 //! meant to see was never seen.
 
+use checks::callers::Who;
 use checks::case::{self, Arguments};
 use checks::lent::Lender;
 use checks::tally::{Findings, Tally};
 use checks::trials::{random_trial, single_step_trials};
+use checks::two_callers::{self, Agreement};
 use checks::two_ways::{Outcome, Trial, compare};
 use model::carry::{carry_step, takes_product};
 use model::dice::Dice;
 use model::pauli::Pauli;
-use model::run::{LIMIT, Run, Step};
+use model::run::{Caller, EMULATOR, LIMIT, Run, Step};
 use std::process::ExitCode;
 
 const RUNS: u64 = 1_000_000;
@@ -37,10 +40,11 @@ const WANTED: [&str; 19] = [
     "quarter turn, frame turned",
     "empty list",
     "list that ends on no qubits",
-    "list that reaches 12 qubits",
-    "start at 12 qubits",
+    "list that reaches the widest state",
+    "start at the widest state",
 ];
 
+/// Of one caller.
 #[derive(Default)]
 struct Seen {
     starts: [u64; LIMIT + 1],
@@ -49,6 +53,23 @@ struct Seen {
     from_the_start: Totals,
     from_a_step: Totals,
     wrong: Findings,
+}
+
+/// Of runs offered to both callers.
+#[derive(Default)]
+struct Both {
+    runs: u64,
+    compared: u64,
+    not_finite: u64,
+    service_alone: u64,
+    wrong: Findings,
+}
+
+#[derive(Default)]
+struct All {
+    service: Seen,
+    emulator: Seen,
+    both: Both,
 }
 
 /// Of runs whose amplitudes are finite throughout, or not so from the start or from some step on.
@@ -87,25 +108,24 @@ impl Totals {
 }
 
 impl Seen {
-    fn try_one(&mut self, lender: &Lender, dice: &mut Dice, seed: u64, trial: &Trial) {
+    fn try_one(&mut self, lender: &Lender, dice: &mut Dice, seed: u64, who: Who, trial: &Trial) {
         self.starts[trial.run.width] += 1;
-        match compare(lender, dice, trial) {
-            Ok(outcome) => self.add(seed, trial, &outcome),
-            Err(what) => self.note(seed, &what, trial),
+        match compare(lender, dice, who, trial) {
+            Ok(outcome) => self.add(seed, who, trial, &outcome),
+            Err(what) => {
+                let what = format!("{}: {what}", who.name());
+                note(&mut self.wrong, seed, &what, trial);
+            }
         }
     }
 
-    fn note(&mut self, seed: u64, what: &str, trial: &Trial) {
-        let description = format!("{what}; {}", trial.description());
-        self.wrong.note(seed, &description);
-    }
-
-    fn add(&mut self, seed: u64, trial: &Trial, outcome: &Outcome) {
+    fn add(&mut self, seed: u64, who: Who, trial: &Trial, outcome: &Outcome) {
         if outcome.finite {
             self.finite.add(outcome);
-            add_steps(&mut self.steps, trial, &outcome.carried);
+            add_steps(&mut self.steps, who.caller(), trial, &outcome.carried);
             if outcome.parts.differing + outcome.parts.both_nan > 0 {
-                self.note(seed, "the two ways end in different numbers", trial);
+                let what = format!("{}: the two ways end in different numbers", who.name());
+                note(&mut self.wrong, seed, &what, trial);
             }
         } else if outcome.finite_start {
             self.from_a_step.add(outcome);
@@ -114,9 +134,10 @@ impl Seen {
         }
     }
 
-    fn print(&self) {
+    fn print(&self, who: Who) {
+        println!("by the {}'s calls", who.name());
         println!("start width, runs");
-        for (width, runs) in self.starts.iter().enumerate() {
+        for (width, runs) in self.starts(who).iter().enumerate() {
             println!("{width:>11}  {runs}");
         }
         println!("steps and lists of the finite runs");
@@ -139,15 +160,20 @@ impl Seen {
         self.from_the_start.print("not finite at the start");
     }
 
+    /// By the widths that the caller takes.
+    fn starts(&self, who: Who) -> &[u64] {
+        &self.starts[..=who.caller().widest]
+    }
+
     /// What should have been seen and was not.
-    fn missing(&self) -> Vec<&'static str> {
+    fn missing(&self, who: Who) -> Vec<&'static str> {
         let mut missing = self.steps.missing(&WANTED);
         let mut want = |seen: u64, name| {
             if seen == 0 {
                 missing.push(name);
             }
         };
-        let least = self.starts.iter().min().copied();
+        let least = self.starts(who).iter().min().copied();
         want(least.unwrap_or(0), "some start width");
         want(self.finite.zeros_of_two_signs, "zeros of two signs");
         want(self.from_the_start.runs, "start that is not finite");
@@ -162,8 +188,77 @@ impl Seen {
     }
 }
 
+fn note(wrong: &mut Findings, seed: u64, what: &str, trial: &Trial) {
+    let description = format!("{what}; {}", trial.description());
+    wrong.note(seed, &description);
+}
+
+impl Both {
+    fn try_one(&mut self, lender: &Lender, dice: &mut Dice, seed: u64, trial: &Trial) {
+        match two_callers::compare(lender, dice, trial) {
+            Ok(Agreement::Both {
+                compared,
+                not_finite,
+            }) => {
+                self.runs += 1;
+                self.compared += compared as u64;
+                self.not_finite += not_finite as u64;
+            }
+            Ok(Agreement::ServiceAlone) => self.service_alone += 1,
+            Err(what) => note(&mut self.wrong, seed, &what, trial),
+        }
+    }
+
+    fn print(&self) {
+        println!(
+            "both callers: {} runs by each from the same state, and carried by each; {} parts compared, {} of them not finite; \
+             {} runs more that the emulator refuses by 21",
+            self.runs, self.compared, self.not_finite, self.service_alone,
+        );
+    }
+
+    fn missing(&self) -> Vec<&'static str> {
+        let wanted = [
+            (self.runs, "run by both callers"),
+            (self.not_finite, "part that is not finite, by both callers"),
+            (self.service_alone, "run of the service alone"),
+        ];
+        let unseen = wanted.into_iter().filter(|(seen, _)| *seen == 0);
+        unseen.map(|(_, name)| name).collect()
+    }
+}
+
+impl All {
+    /// By the service; by both; by the emulator where it takes the run.
+    fn try_one(&mut self, lender: &Lender, dice: &mut Dice, seed: u64, trial: &Trial) {
+        self.service
+            .try_one(lender, dice, seed, Who::Service, trial);
+        self.both.try_one(lender, dice, seed, trial);
+        if trial.run.survey().greatest <= EMULATOR.widest {
+            self.emulator
+                .try_one(lender, dice, seed, Who::Emulator, trial);
+        }
+    }
+
+    fn print(&self) {
+        self.service.print(Who::Service);
+        self.emulator.print(Who::Emulator);
+        self.both.print();
+    }
+
+    fn wrong(&self) -> u64 {
+        self.service.wrong.0 + self.emulator.wrong.0 + self.both.wrong.0
+    }
+
+    fn missing(&self) -> Vec<&'static str> {
+        let service = self.service.missing(Who::Service);
+        let emulator = self.emulator.missing(Who::Emulator);
+        [service, emulator, self.both.missing()].concat()
+    }
+}
+
 /// Counts what carrying did to each step.
-fn add_steps(steps: &mut Tally, trial: &Trial, carried: &Run) {
+fn add_steps(steps: &mut Tally, caller: Caller, trial: &Trial, carried: &Run) {
     let mut frame = trial.q;
     for (&step, &new) in trial.run.steps.iter().zip(&carried.steps) {
         steps.add(kind(frame, step, new), 1);
@@ -175,11 +270,9 @@ fn add_steps(steps: &mut Tally, trial: &Trial, carried: &Run) {
     let seen = trial.run.survey();
     steps.add("empty list", usize::from(seen.steps == 0));
     steps.add("list that ends on no qubits", usize::from(seen.width == 0));
-    steps.add(
-        "list that reaches 12 qubits",
-        usize::from(seen.greatest == 12),
-    );
-    steps.add("start at 12 qubits", usize::from(trial.run.width == 12));
+    let widest = |width: usize| usize::from(width == caller.widest);
+    steps.add("list that reaches the widest state", widest(seen.greatest));
+    steps.add("start at the widest state", widest(trial.run.width));
 }
 
 fn kind(frame: Pauli, step: Step, carried: Step) -> &'static str {
@@ -211,7 +304,7 @@ fn at_pivot(frame: Pauli, m: Pauli, pivot: u8) -> &'static str {
 }
 
 /// Every Pauli carried past every single step at widths 0 to 2, with other floats in each round.
-fn all_single_steps(seen: &mut Seen, lender: &Lender, seed: u64) -> u64 {
+fn all_single_steps(seen: &mut All, lender: &Lender, seed: u64) -> u64 {
     let mut dice = Dice(seed);
     let mut count = 0;
     for n in [0, 1, 2].repeat(ROUNDS) {
@@ -227,7 +320,7 @@ fn main() -> ExitCode {
     let Arguments { count, seed, heap } = Arguments::read(RUNS, SEED);
     case::name_faults();
     let lender = Lender::new(heap);
-    let mut seen = Seen::default();
+    let mut seen = All::default();
 
     case::begin(seed);
     let single = all_single_steps(&mut seen, &lender, seed);
@@ -241,6 +334,6 @@ fn main() -> ExitCode {
     println!("{count} random runs from seed {seed}, and {single} runs of a single step");
     seen.print();
     let missing = seen.missing();
-    println!("wrong: {}; never seen: {missing:?}", seen.wrong.0);
-    ExitCode::from(u8::from(seen.wrong.0 > 0 || !missing.is_empty()))
+    println!("wrong: {}; never seen: {missing:?}", seen.wrong());
+    ExitCode::from(u8::from(seen.wrong() > 0 || !missing.is_empty()))
 }

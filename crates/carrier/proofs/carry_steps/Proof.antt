@@ -9,6 +9,7 @@ use Rattle.passing.specs.Accepted.{past-is, past-never}
 use Rattle.runlaws.specs.Flags.{fieldSize, flagged}
 use Rattle.runlaws.specs.Flagged.{flag-length, carried-size}
 use Rattle.runlaws.specs.Going.{Gone, going-step}
+use Rattle.callers.specs.Meaning.{callerOf}
 use Rattle.steps.proofs.Ended.{none-left}
 use Rattle.steps.specs.Meaning.{cursorOf, stepOf, readOf}
 use Rattle.carrier.specs.Ready.{runIn}
@@ -18,14 +19,14 @@ use Rattle.carrier.proofs.carry_steps.Statement.{statement}
 use Rattle.carrier.proofs.carry_steps.Tie as tie
 
 abbrev Inv-loop : tie.InvT-loop
-Inv-loop run out₀ limit cursor₀ held₀ out cursor held =
+Inv-loop run out₀ caller cursor₀ held₀ out cursor held =
     let Q = activeOf held₀ in
-    let steps = runIn limit run .steps in
+    let steps = runIn (callerOf caller) run .steps in
     let all = flagged 4 (carriedSteps Q steps) out₀ in
-    Carrying limit run (endPauli Q steps) all (cursorOf cursor) (activeOf held) out × (length out ≡ length out₀)
+    Carrying (callerOf caller) run (endPauli Q steps) all (cursorOf cursor) (activeOf held) out × (length out ≡ length out₀)
 
 abbrev μ-loop : tie.MeasureT-loop
-μ-loop run out₀ limit cursor₀ held₀ out cursor held = length run - cursor .at
+μ-loop run out₀ caller cursor₀ held₀ out cursor held = length run - cursor .at
 
 loop-holds : tie.Need-loop-holds Inv-loop μ-loop
 loop-holds c = (outset _ _ _ _ (c .before .before .pre), refl)
@@ -42,7 +43,7 @@ gone : (c : tie.After-got Inv-loop μ-loop) → let at-loop = c .before .before 
     let w = at-loop .loop .inv .0 in
     let t = stepOf (c .got .given .0 .0) in
     let next = cursorOf (c .got .given .0 .1 .0) in
-    Gone (a .limit) (a .run .now) (cursorOf (at-loop .loop .cursor)) (activeOf (at-loop .loop .held)) (w .steps) t next
+    Gone (callerOf (a .caller)) (a .run .now) (cursorOf (at-loop .loop .cursor)) (activeOf (at-loop .loop .held)) (w .steps) t next
 gone c =
     let read = c .before .before in
     going-step (read .before .loop .inv .0 .going) _ _ (sym (read .read .ensures) ∙ ap readOf (c .got .given .1))

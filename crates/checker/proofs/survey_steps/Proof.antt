@@ -8,6 +8,7 @@ use Rattle.framelaws.specs.Survey as frame
 use Rattle.runlaws.specs.Reading.{readAt}
 use Rattle.runlaws.specs.Reading.Read.{stepRead}
 use Rattle.runlaws.specs.Run.{mapped, walk}
+use Rattle.callers.specs.Meaning.{callerOf}
 use Rattle.steps.specs.Meaning.{cursorOf, stepOf, readOf}
 use Rattle.checker.specs.Meaning.{surveyFieldsOf}
 use Rattle.checker.proofs.Surveying.{Surveying, at-start, moves, surveyable, one-more, no-step}
@@ -15,12 +16,12 @@ use Rattle.checker.proofs.survey_steps.Statement.{statement}
 use Rattle.checker.proofs.survey_steps.Tie as tie
 
 abbrev Inv-loop : tie.InvT-loop
-Inv-loop run width limit cursor₀ survey₀ cursor survey =
-    Surveying limit run (mapped (frame.survey width) (walk limit (length run) run (record { at = 4; width = width })))
+Inv-loop run width caller cursor₀ survey₀ cursor survey =
+    Surveying (callerOf caller) run (mapped (frame.survey width) (walk (callerOf caller) (length run) run (record { at = 4; width = width })))
     (cursorOf cursor) (surveyFieldsOf survey)
 
 abbrev μ-loop : tie.MeasureT-loop
-μ-loop run width limit cursor₀ survey₀ cursor survey = length run - cursor .at
+μ-loop run width caller cursor₀ survey₀ cursor survey = length run - cursor .at
 
 loop-holds : tie.Need-loop-holds Inv-loop μ-loop
 loop-holds c = at-start _ _ _ (c .before .pre .0) (c .before .pre .1)
@@ -42,7 +43,7 @@ returns c =
 -- what was read is the step
 step-got : (c : tie.After-got Inv-loop μ-loop) → let at-loop = c .before .before .before in
     let a = at-loop .before .before .args in
-    readAt (a .limit) (a .run .now) (cursorOf (at-loop .loop .cursor)) ≡ stepRead (stepOf (c .got .given .0 .0)) (cursorOf (c .got .given .0 .1 .0))
+    readAt (callerOf (a .caller)) (a .run .now) (cursorOf (at-loop .loop .cursor)) ≡ stepRead (stepOf (c .got .given .0 .0)) (cursorOf (c .got .given .0 .1 .0))
 step-got c = sym (c .before .before .read .ensures) ∙ ap readOf (c .got .given .1)
 
 surveyed-requires : tie.Need-surveyed-requires Inv-loop μ-loop

@@ -15,25 +15,29 @@ use Rattle.fields.proofs.Fields.{field-in, field-of, field-none}
 use borrow.Author.Needs.{needs}
 use Rattle.reader.proofs.read.Statement.{statement}
 use Rattle.reader.proofs.read.Tie as tie
+use Rattle.framelaws.specs.Caller.{Caller}
 
-module _ (limit : ℕ) (s : List ℕ) (c : Cursor) where
-  too-long : mostBytes < length s → refusedRead 14 0 ≡ readAt limit s c
+module _ (caller : Caller) (s : List ℕ) (c : Cursor) where
+  too-long : mostBytes < length s → refusedRead 14 0 ≡ readAt caller s c
   unfolding readAt
   too-long h = rw (lt-ltb mostBytes (length s) h)
 
   module _ (short : length s ≤ mostBytes) where
-    over : limit < c .width → refusedRead 14 (c .at) ≡ readAt limit s c
+    over : caller .widest < c .width → refusedRead 14 (c .at) ≡ readAt caller s c
     unfolding readAt
-    over h = rw (le-ltb mostBytes (length s) short, lt-ltb limit (c .width) h)
+    over h = rw (le-ltb mostBytes (length s) short, lt-ltb (caller .widest) (c .width) h)
 
-    field-read : c .width ≤ limit → (f : Option Field) → fieldIn s (c .at) ≡ f → readField limit c f ≡ readAt limit s c
-    field-read within f e = sym (read-within limit s c short within ∙ ap (readField limit c) (sym (field-in s (c .at) short) ∙ e))
+    field-read : c .width ≤ caller .widest → (f : Option Field) → fieldIn s (c .at) ≡ f → readField caller c f ≡ readAt caller s c
+    field-read within f e = sym (read-within caller s c short within ∙ ap (readField caller c) (sym (field-in s (c .at) short) ∙ e))
 
 returns : tie.Need-returns
 returns c = too-long _ _ _ (omega arith)
 
+widest-requires : tie.Need-widest-requires
+widest-requires c κs = search needs
+
 returns-2 : tie.Need-returns-2
-returns-2 c = over _ _ _ (omega arith) (c .if2 .taken)
+returns-2 c = over _ _ _ (omega arith) (omega (arith, c .before .before .widest .ensures))
 
 field-requires : tie.Need-field-requires
 field-requires c κs = search needs
@@ -49,7 +53,7 @@ unfolding readField
 returns-3 c =
     let asked = c .before .before in
     let cut = field-none _ _ (ap fieldAnswerOf (sym (c .enum-told .given .1)) ∙ asked .field .ensures) in
-    field-read _ _ _ (asked .before .before .before .if1 .left) (asked .before .if2 .left) none cut
+    field-read _ _ _ (omega arith) (omega (arith, asked .before .before .before .widest .ensures)) none cut
 
 body-requires : tie.Need-body-requires
 body-requires c κs = search needs
@@ -62,13 +66,14 @@ returns-4 c =
     let matched = c .before .before .before in
     let asked = matched .before .before in
     let whole = field-of _ _ _ _ _ (ap fieldAnswerOf (sym (matched .tag .given .1)) ∙ asked .field .ensures) (c .before .body .ensures) in
-    c .read-field .ensures ∙ field-read _ _ _ (asked .before .before .before .if1 .left) (asked .before .if2 .left) _ whole
+    c .read-field .ensures ∙ field-read _ _ _ (omega arith) (omega (arith, asked .before .before .before .widest .ensures)) _ whole
 
 pub read-spec : {M : Type 1} → statement M
 read-spec =
     tie.close
     (tie.spec
     returns
+    widest-requires
     returns-2
     field-requires
     enum-known-tag

@@ -1,6 +1,7 @@
 use mathlib.Core.Path.{sym, _∙_}
 use Rattle.amplitudelaws.specs.Lent.{lentMemory}
 use Rattle.runlaws.specs.Calls.{memoryRow}
+use Rattle.callers.specs.Meaning.{callerOf}
 use Rattle.checker.specs.Meaning.{surveyFieldsOf}
 use Rattle.runner.proofs.Outcomes.{runs-short, runs-ready, runs-finished}
 use borrow.Author.Needs.{needs}
@@ -29,7 +30,7 @@ returns c =
     let start = looked .before .before .before .before .before .before .before .before .before .before in
     let a = start .args in
     let m = lentMemory (a .re) (a .im) (a .scratch-re) (a .scratch-im) in
-    runs-short (a .limit) (a .run .now) m (a .start) (surveyFieldsOf (a .survey)) (start .pre) _ (looked .memory-row .ensures) (c .if1 .taken)
+    runs-short (callerOf (a .caller)) (a .run .now) m (a .start) (surveyFieldsOf (a .survey)) (start .pre) _ (looked .memory-row .ensures) (c .if1 .taken)
 
 run-steps-requires : tie.Need-run-steps-requires
 unfolding memoryRow
@@ -39,7 +40,7 @@ run-steps-requires c κs =
     let start = looked .before .before .before .before .before .before .before .before .before .before in
     let a = start .args in
     let m = lentMemory (a .re) (a .im) (a .scratch-re) (a .scratch-im) in
-    runs-ready (a .limit) (a .run .now) m (a .start) (surveyFieldsOf (a .survey)) (start .pre)
+    runs-ready (callerOf (a .caller)) (a .run .now) m (a .start) (surveyFieldsOf (a .survey)) (start .pre)
     (sym (looked .memory-row .ensures) ∙ passed .if1 .left)
 
 same-length-5 : tie.Need-same-length-5
@@ -63,7 +64,7 @@ returns-2 c =
     let start = looked .before .before .before .before .before .before .before .before .before .before in
     let a = start .args in
     let m = lentMemory (a .re) (a .im) (a .scratch-re) (a .scratch-im) in
-    runs-finished (a .limit) (a .run .now) m (a .start) (surveyFieldsOf (a .survey)) (start .pre)
+    runs-finished (callerOf (a .caller)) (a .run .now) m (a .start) (surveyFieldsOf (a .survey)) (start .pre)
     (sym (looked .memory-row .ensures) ∙ passed .if1 .left) (called .run-steps .ensures)
 
 pub run-checked-spec : {M : Type 1} → statement M

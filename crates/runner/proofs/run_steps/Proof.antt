@@ -6,6 +6,7 @@ use Rattle.framelaws.specs.Kept.{SameSizes}
 use Rattle.runlaws.specs.Reading.{readAt}
 use Rattle.runlaws.specs.Reading.Read.{stepRead}
 use Rattle.runlaws.specs.Calls.{running}
+use Rattle.callers.specs.Meaning.{callerOf}
 use Rattle.steps.specs.Meaning.{cursorOf, stepOf, readOf}
 use Rattle.runner.proofs.Underway.{Underway, lent-sizes, underway-outset, underway-ready, underway-step, underway-less, underway-end}
 use borrow.Author.Needs.{needs}
@@ -13,11 +14,11 @@ use Rattle.runner.proofs.run_steps.Statement.{statement}
 use Rattle.runner.proofs.run_steps.Tie as tie
 
 abbrev Inv-loop : tie.InvT-loop
-Inv-loop run re₀ im₀ scratch-re₀ scratch-im₀ limit width cursor₀ re im scratch-re scratch-im cursor =
-    Underway limit run (memoryOf re₀ im₀ scratch-re₀ scratch-im₀) (cursorOf cursor) (memoryOf re im scratch-re scratch-im)
+Inv-loop run re₀ im₀ scratch-re₀ scratch-im₀ caller width cursor₀ re im scratch-re scratch-im cursor =
+    Underway (callerOf caller) run (memoryOf re₀ im₀ scratch-re₀ scratch-im₀) (cursorOf cursor) (memoryOf re im scratch-re scratch-im)
 
 abbrev μ-loop : tie.MeasureT-loop
-μ-loop run re₀ im₀ scratch-re₀ scratch-im₀ limit width cursor₀ re im scratch-re scratch-im cursor =
+μ-loop run re₀ im₀ scratch-re₀ scratch-im₀ caller width cursor₀ re im scratch-re scratch-im cursor =
     length run - cursor .at
 
 loop-holds : tie.Need-loop-holds Inv-loop μ-loop
@@ -32,7 +33,7 @@ enum-known-got c = search needs
 -- what was read is the step
 step-got : (c : tie.After-got Inv-loop μ-loop) → let at-loop = c .before .before .before in
     let a = at-loop .before .before .before .before .before .before .args in
-    readAt (a .limit) (a .run .now) (cursorOf (at-loop .loop .cursor)) ≡ stepRead (stepOf (c .got .given .0 .0)) (cursorOf (c .got .given .0 .1 .0))
+    readAt (callerOf (a .caller)) (a .run .now) (cursorOf (at-loop .loop .cursor)) ≡ stepRead (stepOf (c .got .given .0 .0)) (cursorOf (c .got .given .0 .1 .0))
 step-got c = sym (c .before .before .read .ensures) ∙ ap readOf (c .got .given .1)
 
 take-step-requires : tie.Need-take-step-requires Inv-loop μ-loop
@@ -54,7 +55,7 @@ loop-again c =
 -- after the loop
 ended : (c : tie.At-match-keys2 Inv-loop μ-loop) → let l = c .before .before .loop in
     let a = c .before .before .before .before .before .before .before .before .args in
-    memoryOf (l .re) (l .im) (l .scratch-re) (l .scratch-im) ≡ running (a .limit) (a .run .now) (memoryOf (a .re .now) (a .im .now) (a .scratch-re .now) (a .scratch-im .now)) .lent
+    memoryOf (l .re) (l .im) (l .scratch-re) (l .scratch-im) ≡ running (callerOf (a .caller)) (a .run .now) (memoryOf (a .re .now) (a .im .now) (a .scratch-re .now) (a .scratch-im .now)) .lent
 ended c = underway-end (c .before .before .loop .inv) (c .before .read .result) (c .before .read .ensures) (c .match .keys2)
 
 sizes : (c : tie.At-match-keys2 Inv-loop μ-loop) → let l = c .before .before .loop in

@@ -4,7 +4,7 @@ use mathlib.Core.Bool.{Bool}
 use borrow.Author.Needs.{needs}
 use Rattle.answers.specs.Answer.{Answer, isAccepted}
 use Rattle.runlaws.specs.Calls.{Ending}
-use Rattle.runlaws.specs.Ledger.{counted, finishes, served}
+use Rattle.runlaws.specs.Ledger.{counted, finishes, after}
 use Rattle.ledger.specs.Meaning.{ledgerOf}
 use Rattle.ledger.proofs.Ledger.serve.Statement.{statement}
 use Rattle.ledger.proofs.Ledger.serve.Tie as tie
@@ -31,7 +31,7 @@ same-length-4 : tie.Need-same-length-4
 same-length-4 c = search needs
 
 returns : tie.Need-returns
-unfolding served finishes
+unfolding after finishes
 returns c =
     let ran = c .before .before .before .before .before .before .before .before .before .before in
     let start = ran .before .before .before .before .before .before .before .before .before .before in

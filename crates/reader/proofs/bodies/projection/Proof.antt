@@ -29,7 +29,7 @@ unfolding judged stepRow
 returns c =
     let a = c .before .before .before .before .args in
     let refused = some-row _ (c .if1 .taken) in
-    λ limit. judged-refused _ (cursorOf (a .cursor)) (a .next) _ _ (projection-pauli _ _ _ _ _ (pauli-row (c .before)) refused) refused
+    λ caller. judged-refused _ (cursorOf (a .cursor)) (a .next) _ _ (projection-pauli _ _ _ _ _ (pauli-row (c .before)) refused) refused
 
 float-requires : tie.Need-float-requires
 float-requires c κs = search needs
@@ -47,7 +47,7 @@ returns-2 c =
     let a = passed .before .before .before .before .args in
     let none = sym (pauli-row (passed .before)) ∙ passed .if1 .left in
     let eight = projection-nan _ _ _ _ none (ap floatAnswerOf (sym (c .enum-told .given .1)) ∙ c .before .before .float .ensures) in
-    λ limit. judged-refused _ (cursorOf (a .cursor)) (a .next) _ _ eight (lit< tt)
+    λ caller. judged-refused _ (cursorOf (a .cursor)) (a .next) _ _ eight (lit< tt)
 
 shared-slice-read-pivot : tie.Need-shared-slice-read-pivot
 shared-slice-read-pivot c = search needs
@@ -85,7 +85,7 @@ returns-3 : tie.Need-returns-3
 unfolding judged stepRow
 returns-3 c =
     let a = c .before .before .before .before .before .before .before .before .before .before .before .before .before .before .before .args in
-    λ limit. judged-refused _ (cursorOf (a .cursor)) (a .next) _ _ (step-row (c .before)) (some-row _ (c .if2 .taken))
+    λ caller. judged-refused _ (cursorOf (a .cursor)) (a .next) _ _ (step-row (c .before)) (some-row _ (c .if2 .taken))
 
 sub-t19 : tie.Need-sub-t19
 unfolding pauliAt
@@ -97,7 +97,7 @@ returns-4 c =
     let matched = c .before .before .before .before .before .before .before .before .before in
     let made = matched .before .before .before .before .before in
     let a = made .before .before .args in
-    λ limit. projection-step _ _ _ _ (cursorOf (a .cursor)) (a .next) (made .pauli .ensures) (norm matched)
+    λ caller. projection-step _ _ _ _ (cursorOf (a .cursor)) (a .next) (made .pauli .ensures) (norm matched)
     (sym (step-row (c .before .before)) ∙ c .before .if2 .left)
 
 pub projection-spec : {M : Type 1} → statement M

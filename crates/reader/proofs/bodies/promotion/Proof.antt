@@ -1,10 +1,12 @@
 use mathlib.Core.Path.{_≡_, sym, ap, ap₂, _∙_}
+use native.Mathlib.Omega.{arith}
 use lib.Dec.{lit<}
 use Rattle.answers.specs.Row.{some-row}
 use Rattle.amplitudelaws.specs.Rows.{unitRow, promotedWidthRow}
 use Rattle.framelaws.specs.Rows.{stepRow}
 use Rattle.runlaws.specs.Bytes.{floatAt}
 use Rattle.runlaws.specs.Reading.{judged}
+use Rattle.callers.specs.Meaning.{callerOf}
 use Rattle.steps.specs.Meaning.{cursorOf}
 use Rattle.reader.specs.Meaning.{floatAnswerOf}
 use Rattle.reader.proofs.Judging.{judged-refused, nan-first, nan-second, promotion-width, promotion-unit, promotion-limit, promotion-passed, promotion-step}
@@ -86,14 +88,22 @@ returns-4 c =
     let refused = some-row _ (c .if2 .taken) in
     judged-refused _ (cursorOf (a .cursor)) (a .next) _ _ (promotion-unit _ _ _ _ (narrow passed) _ (unit-row (c .before)) refused) refused
 
+widest-requires : tie.Need-widest-requires
+widest-requires c κs = search needs
+
+promotion-row-requires : tie.Need-promotion-row-requires
+promotion-row-requires c κs = search needs
+
 returns-5 : tie.Need-returns-5
 unfolding judged stepRow
 returns-5 c =
-    let asked = c .before .before .before in
+    let limit = c .before .before .before in
+    let asked = limit .before .before in
     let passed = asked .before .before .before .before .before .before .before .before .before in
     let a = passed .before .before .before .args in
     judged-refused _ (cursorOf (a .cursor)) (a .next) _ _
-    (promotion-limit _ _ _ _ (narrow passed) (sym (unit-row asked) ∙ c .before .before .if2 .left) (c .if3 .taken)) (lit< tt)
+    (c .promotion-row .ensures ∙ promotion-limit _ _ _ _ (narrow passed) (sym (unit-row asked) ∙ limit .before .if2 .left) (omega (arith, limit .widest .ensures)))
+    (rw (c .promotion-row .ensures) (callerOf (a .caller) .refuses))
 
 add-t13 : tie.Need-add-t13
 add-t13 c = search needs
@@ -101,12 +111,14 @@ add-t13 c = search needs
 returns-6 : tie.Need-returns-6
 unfolding judged stepRow
 returns-6 c =
-    let asked = c .before .before .before .before in
+    let limit = c .before .before .before in
+    let asked = limit .before .before in
     let second = asked .before .before in
     let matched = second .before .before .before .before in
     let passed = matched .before .before .before in
     let a = passed .before .before .before .args in
-    let none = promotion-passed (a .limit) (a .cursor .width) _ _ (narrow passed) (sym (unit-row asked) ∙ c .before .before .before .if2 .left) (c .before .if3 .left) in
+    let none = promotion-passed (callerOf (a .caller)) (a .cursor .width) _ _ (narrow passed) (sym (unit-row asked) ∙ limit .before .if2 .left)
+    (omega (arith, limit .widest .ensures)) in
     promotion-step _ _ _ _ (cursorOf (a .cursor)) (a .next) (cosine matched) (coefficient second) none
 
 pub promotion-spec : {M : Type 1} → statement M
@@ -125,6 +137,8 @@ promotion-spec =
     returns-3
     unit-row-requires
     returns-4
+    widest-requires
+    promotion-row-requires
     returns-5
     add-t13
     returns-6)

@@ -25,7 +25,7 @@ returns c =
     let asked = c .before in
     let a = asked .before .before .before .args in
     let is = asked .before .pauli .ensures in
-    λ limit. c .kept .ensures
+    λ caller. c .kept .ensures
     ∙ kept-step (cursorOf (a .cursor)) (a .next) (asked .hermitian-row .ensures ∙ ap (hermitianRow widestKernel) is) (ap quarterTurn is) refl
 
 pub quarter-turn-spec : {M : Type 1} → statement M

@@ -31,7 +31,7 @@ unfolding judged stepRow
 returns c =
     let a = c .before .before .before .before .args in
     let refused = some-row _ (c .if1 .taken) in
-    λ limit. judged-refused _ (cursorOf (a .cursor)) (a .next) _ _ (rotation-pauli _ _ _ _ _ (pauli-row (c .before)) refused) refused
+    λ caller. judged-refused _ (cursorOf (a .cursor)) (a .next) _ _ (rotation-pauli _ _ _ _ _ (pauli-row (c .before)) refused) refused
 
 float-requires : tie.Need-float-requires
 float-requires c κs = search needs
@@ -48,7 +48,7 @@ returns-2 c =
     let passed = c .before .before .before in
     let a = passed .before .before .before .before .args in
     let eight = nan-first _ _ (ap floatAnswerOf (sym (c .enum-told .given .1)) ∙ c .before .before .float .ensures) in
-    λ limit. judged-refused _ (cursorOf (a .cursor)) (a .next) _ _ (rotation-nan _ _ _ _ (pauli-passed passed) eight) (lit< tt)
+    λ caller. judged-refused _ (cursorOf (a .cursor)) (a .next) _ _ (rotation-nan _ _ _ _ (pauli-passed passed) eight) (lit< tt)
 
 float-requires-2 : tie.Need-float-requires-2
 float-requires-2 c κs = search needs
@@ -65,7 +65,7 @@ returns-3 c =
     let passed = c .before .before .before .before .before .before .before in
     let a = passed .before .before .before .before .args in
     let eight = nan-second _ _ (ap floatAnswerOf (sym (c .enum-told2 .given .1)) ∙ c .before .before .float2 .ensures) in
-    λ limit. judged-refused _ (cursorOf (a .cursor)) (a .next) _ _ (rotation-nan _ _ _ _ (pauli-passed passed) eight) (lit< tt)
+    λ caller. judged-refused _ (cursorOf (a .cursor)) (a .next) _ _ (rotation-nan _ _ _ _ (pauli-passed passed) eight) (lit< tt)
 
 shared-slice-read-sign : tie.Need-shared-slice-read-sign
 shared-slice-read-sign c = search needs
@@ -99,7 +99,7 @@ returns-4 : tie.Need-returns-4
 unfolding judged stepRow
 returns-4 c =
     let a = c .before .before .before .before .before .before .before .before .before .before .before .before .before .before .before .before .before .args in
-    λ limit. judged-refused _ (cursorOf (a .cursor)) (a .next) _ _ (step-row (c .before)) (some-row _ (c .if2 .taken))
+    λ caller. judged-refused _ (cursorOf (a .cursor)) (a .next) _ _ (step-row (c .before)) (some-row _ (c .if2 .taken))
 
 returns-5 : tie.Need-returns-5
 unfolding judged stepRow
@@ -108,7 +108,7 @@ returns-5 c =
     let matched = second .before .before .before .before in
     let made = matched .before .before .before .before .before in
     let a = made .before .before .args in
-    λ limit. rotation-step _ _ _ _ (cursorOf (a .cursor)) (a .next) (made .pauli .ensures) (cosine matched) (sine second)
+    λ caller. rotation-step _ _ _ _ (cursorOf (a .cursor)) (a .next) (made .pauli .ensures) (cosine matched) (sine second)
     (sym (step-row (c .before)) ∙ c .if2 .left)
 
 pub rotation-spec : {M : Type 1} → statement M

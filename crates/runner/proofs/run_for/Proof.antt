@@ -1,10 +1,11 @@
 use mathlib.Core.Path.{sym, ap, _∙_}
 use Rattle.amplitudelaws.specs.Lent.{lentMemory}
+use Rattle.callers.specs.Meaning.{callerOf}
 use Rattle.checker.specs.Meaning.{checkedOf}
 use Rattle.runner.proofs.Outcomes.{runs-refused}
 use borrow.Author.Needs.{needs}
-use Rattle.runner.proofs.run_within.Statement.{statement}
-use Rattle.runner.proofs.run_within.Tie as tie
+use Rattle.runner.proofs.run_for.Statement.{statement}
+use Rattle.runner.proofs.run_for.Tie as tie
 
 check-with-start-requires : tie.Need-check-with-start-requires
 check-with-start-requires c κs = search needs
@@ -26,7 +27,7 @@ returns c =
     let checked = c .before .before .before in
     let a = checked .before .before .before .before .before .before .args in
     let m = lentMemory (a .re) (a .im) (a .scratch-re) (a .scratch-im) in
-    runs-refused (a .limit) (a .run .now) m _ _
+    runs-refused (callerOf (a .caller)) (a .run .now) m _ _
     (sym (checked .check-with-start .ensures) ∙ ap checkedOf (c .before .row .given .1))
 
 same-length : tie.Need-same-length
@@ -44,8 +45,8 @@ same-length-4 c = search needs
 returns-2 : tie.Need-returns-2
 returns-2 c = search needs
 
-pub run-within-spec : {M : Type 1} → statement M
-run-within-spec =
+pub run-for-spec : {M : Type 1} → statement M
+run-for-spec =
     tie.close
     (tie.spec
     check-with-start-requires

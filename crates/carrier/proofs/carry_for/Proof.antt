@@ -1,12 +1,13 @@
 use mathlib.Core.Path.{_≡_, sym, ap, _∙_}
 use native.Mathlib.Omega.{arith}
 use Rattle.activepauli.specs.Active.{activeOf}
+use Rattle.callers.specs.Meaning.{callerOf}
 use Rattle.checker.specs.Meaning.{checkedOf}
 use Rattle.carrier.proofs.Answered.{run-refused, row-refused, ready, done}
 use Rattle.runlaws.specs.Outcomes.{carrying-passed}
 use borrow.Author.Needs.{needs}
-use Rattle.carrier.proofs.carry_within.Statement.{statement}
-use Rattle.carrier.proofs.carry_within.Tie as tie
+use Rattle.carrier.proofs.carry_for.Statement.{statement}
+use Rattle.carrier.proofs.carry_for.Tie as tie
 
 check-with-start-requires : tie.Need-check-with-start-requires
 check-with-start-requires c κs = search needs
@@ -25,7 +26,7 @@ returns c =
     let matched = c .before .before .before in
     let checked = matched .before .before in
     let a = checked .before .before .before .args in
-    row-refused (a .limit) (a .run .now) (activeOf (a .pauli)) (a .out .now)
+    row-refused (callerOf (a .caller)) (a .run .now) (activeOf (a .pauli)) (a .out .now)
     (sym (checked .check-with-start .ensures) ∙ ap checkedOf (matched .width .given .1))
     (c .before .carrying-row .ensures) (λ none. omega (arith, c .if1 .taken))
 
@@ -41,7 +42,7 @@ carry-steps-requires c κs =
     let matched = row .before .before in
     let checked = matched .before .before in
     let a = checked .before .before .before .args in
-    ready (a .limit) (a .run .now) (activeOf (a .pauli)) (a .out .now)
+    ready (callerOf (a .caller)) (a .run .now) (activeOf (a .pauli)) (a .out .now)
     (sym (checked .check-with-start .ensures) ∙ ap checkedOf (matched .width .given .1))
     (row .carrying-row .ensures) (omega (arith, copied .before .before .if1 .left)) (copied .copy .ensures .1)
 
@@ -49,7 +50,7 @@ returns-2 : tie.Need-returns-2
 returns-2 c =
     let checked = c .before .before .before in
     let a = checked .before .before .before .args in
-    run-refused (a .limit) (a .run .now) (activeOf (a .pauli)) (a .out .now) _ _
+    run-refused (callerOf (a .caller)) (a .run .now) (activeOf (a .pauli)) (a .out .now) _ _
     (sym (checked .check-with-start .ensures) ∙ ap checkedOf (c .before .row .given .1))
 
 same-length : tie.Need-same-length
@@ -63,13 +64,13 @@ returns-3 c =
     let matched = row .before .before in
     let checked = matched .before .before in
     let a = checked .before .before .before .args in
-    done (a .limit) (a .run .now) (activeOf (a .pauli)) (a .out .now)
+    done (callerOf (a .caller)) (a .run .now) (activeOf (a .pauli)) (a .out .now)
     (sym (checked .check-with-start .ensures) ∙ ap checkedOf (matched .width .given .1))
     (row .carrying-row .ensures) (omega (arith, copied .before .before .if1 .left)) (copied .copy .ensures .1) _ _
     (carried .carry-steps .ensures .0) (carried .carry-steps .ensures .1)
 
-pub carry-within-spec : {M : Type 1} → statement M
-carry-within-spec =
+pub carry-for-spec : {M : Type 1} → statement M
+carry-for-spec =
     tie.close
     (tie.spec
     check-with-start-requires

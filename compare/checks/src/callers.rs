@@ -1,0 +1,138 @@
+//! The two callers of a run: the calls that each has, and the names that they are counted by.
+
+use crate::state::Buffers;
+use model::run::{Caller, EMULATOR, SERVICE};
+use naribhush::{ActivePauli, Answer, Ending, Ledger, Refusal, Survey};
+
+#[derive(Clone, Copy, Debug, PartialEq, Eq)]
+pub enum Who {
+    Service,
+    Emulator,
+}
+
+pub const BOTH: [Who; 2] = [Who::Service, Who::Emulator];
+
+/// A call's name where the answer is a value or one of the run's own rows, which have a place; and where it is one of the rows
+/// that come from what else was lent.
+pub struct Name {
+    pub run: &'static str,
+    pub caller: &'static str,
+}
+
+impl Name {
+    pub fn of<T>(&self, answer: &Answer<T>) -> &'static str {
+        match answer {
+            Err(Refusal { place: None, .. }) => self.caller,
+            _ => self.run,
+        }
+    }
+}
+
+pub struct Names {
+    pub run: Name,
+    pub serve: Name,
+    pub carry: Name,
+}
+
+const SERVICES: Names = Names {
+    run: Name {
+        run: "run",
+        caller: "run, caller's",
+    },
+    serve: Name {
+        run: "serve",
+        caller: "serve, caller's",
+    },
+    carry: Name {
+        run: "carry",
+        caller: "carry, caller's",
+    },
+};
+
+const EMULATORS: Names = Names {
+    run: Name {
+        run: "run_emulated",
+        caller: "run_emulated, caller's",
+    },
+    serve: Name {
+        run: "serve_emulated",
+        caller: "serve_emulated, caller's",
+    },
+    carry: Name {
+        run: "carry_emulated",
+        caller: "carry_emulated, caller's",
+    },
+};
+
+impl Who {
+    pub fn name(self) -> &'static str {
+        match self {
+            Who::Service => "service",
+            Who::Emulator => "emulator",
+        }
+    }
+
+    /// As the model has it.
+    pub fn caller(self) -> Caller {
+        match self {
+            Who::Service => SERVICE,
+            Who::Emulator => EMULATOR,
+        }
+    }
+
+    pub fn names(self) -> &'static Names {
+        match self {
+            Who::Service => &SERVICES,
+            Who::Emulator => &EMULATORS,
+        }
+    }
+
+    pub fn check(self, bytes: &[u8]) -> Answer<Survey> {
+        match self {
+            Who::Service => naribhush::check_run(bytes),
+            Who::Emulator => naribhush::check_emulated(bytes),
+        }
+    }
+
+    pub fn run(self, bytes: &[u8], buffers: &mut Buffers) -> Answer<Ending> {
+        let [re, im, scratch_re, scratch_im] = &mut buffers.0;
+        match self {
+            Who::Service => naribhush::run_contiguous(bytes, re, im, scratch_re, scratch_im),
+            Who::Emulator => naribhush::run_emulated(bytes, re, im, scratch_re, scratch_im),
+        }
+    }
+
+    pub fn carry(self, bytes: &[u8], q: ActivePauli, out: &mut [u8]) -> Answer<ActivePauli> {
+        match self {
+            Who::Service => naribhush::carry_run(bytes, q, out),
+            Who::Emulator => naribhush::carry_emulated(bytes, q, out),
+        }
+    }
+
+    pub fn serve(
+        self,
+        ledger: Ledger,
+        bytes: &[u8],
+        buffers: &mut Buffers,
+    ) -> (Answer<Ending>, Ledger) {
+        let [re, im, scratch_re, scratch_im] = &mut buffers.0;
+        match self {
+            Who::Service => naribhush::serve(ledger, bytes, re, im, scratch_re, scratch_im),
+            Who::Emulator => {
+                naribhush::serve_emulated(ledger, bytes, re, im, scratch_re, scratch_im)
+            }
+        }
+    }
+
+    /// The ledger behind a call: the service's count, the emulator's do not.
+    pub fn counted(self, ledger: Ledger, finished: bool) -> Ledger {
+        match self {
+            Who::Service => Ledger {
+                offered: ledger.offered.wrapping_add(1),
+                finished: ledger.finished.wrapping_add(u64::from(finished)),
+                refused: ledger.refused.wrapping_add(u64::from(!finished)),
+            },
+            Who::Emulator => ledger,
+        }
+    }
+}

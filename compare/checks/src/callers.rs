@@ -37,30 +37,30 @@ pub struct Names {
 const SERVICES: Names = Names {
     run: Name {
         run: "run",
-        caller: "run, caller's",
+        caller: "run, the call's own",
     },
     serve: Name {
         run: "serve",
-        caller: "serve, caller's",
+        caller: "serve, the call's own",
     },
     carry: Name {
         run: "carry",
-        caller: "carry, caller's",
+        caller: "carry, the call's own",
     },
 };
 
 const EMULATORS: Names = Names {
     run: Name {
         run: "run_emulated",
-        caller: "run_emulated, caller's",
+        caller: "run_emulated, the call's own",
     },
     serve: Name {
         run: "serve_emulated",
-        caller: "serve_emulated, caller's",
+        caller: "serve_emulated, the call's own",
     },
     carry: Name {
         run: "carry_emulated",
-        caller: "carry_emulated, caller's",
+        caller: "carry_emulated, the call's own",
     },
 };
 

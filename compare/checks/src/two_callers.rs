@@ -41,7 +41,7 @@ pub fn compare(lender: &Lender, dice: &mut Dice, trial: &Trial) -> Check<Agreeme
     Ok(agreement)
 }
 
-/// The service's buffers: what the run needs or more, now and then all 12 qubits. The emulator's: its board.
+/// The service's buffers: what the run needs or more, now and then all 12 qubits. The emulator's: its board's 64, and a scratch of what the run needs or more.
 fn lengths(dice: &mut Dice, who: Who, seen: Survey) -> [usize; 4] {
     let full = dice.once_in(64);
     let mut more = |needed: usize| match (who, full) {

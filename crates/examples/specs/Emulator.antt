@@ -1,5 +1,5 @@
--- The emulator by example, beside the service: which runs each refuses, by which number and where; and a closed run that meets what the two callers' theorem asks, on
--- a board of 64 amplitudes.
+-- The emulator by example, beside the service: which runs each refuses, by which number and where; and two closed runs that meet what the two callers' theorem asks,
+-- on a board of 64 amplitudes.
 use mathlib.Core.Path.{_≡_, refl, sym, ap, _∙_}
 use mathlib.Core.Bool.{true}
 use mathlib.Core.List.{List, [], _∷_, _++_}
@@ -30,7 +30,7 @@ use Rattle.runlaws.specs.Frame.{Agreeing}
 use Rattle.runlaws.specs.Reading.{decoded, unless, judgedBy, judged, readField, readAt}
 use Rattle.runlaws.specs.Run.{mapped, ended, follow, walk, startWidth, begun, runOf}
 use Rattle.runlaws.specs.Calls.{CheckedRun, surveyOf, onRun, memoryRow, checking, checkingWithStart, running, carrying}
-use Rattle.runlaws.specs.TwoCallers.{Same}
+use Rattle.runlaws.specs.TwoCallers.{Agreed}
 use Rattle.examples.specs.Runs as bytes
 use Rattle.examples.specs.Runs.{runFrom, promotion}
 use Rattle.examples.specs.Instance.{run, here, runs-here}
@@ -135,16 +135,16 @@ agreeing = record { at = at }
     at (suc zero) h = refl
     at (suc (suc b)) h = absurd (omega arith)
 
-met : Same service emulator run here board
+met : Agreed service emulator run here board
 unfolding isAccepted
 met = on-the-board run here board checked (ap isAccepted runs-here) checks (lit≤ tt) (lit≤ tt, lit≤ tt) (lit≤ tt, lit≤ tt) agreeing
 
--- a run that reaches six qubits: all 64 amplitudes are compared behind it. The service has zeros past the first 32, the board ones.
+-- a run that reaches six qubits: all 64 amplitudes are compared behind it. Past the first 32 the service has zeros, and 38 of them, the board ones.
 abbrev lower : List Float
 lower = replicate 32 bytes.one
 
 abbrev full : Memory
-full = memoryOf (lower ++ replicate 32 bytes.zero) (lower ++ replicate 32 bytes.zero) [] []
+full = memoryOf (lower ++ replicate 38 bytes.zero) (lower ++ replicate 38 bytes.zero) [] []
 
 abbrev fullBoard : Memory
 fullBoard = memoryOf (lower ++ replicate 32 bytes.one) (lower ++ replicate 32 bytes.one) (replicate 32 bytes.one) (replicate 32 bytes.one)
@@ -164,11 +164,11 @@ agreeing-at-5 : Agreeing 5 (full .state) (fullBoard .state)
 unfolding point
 agreeing-at-5 = record { at = at }
   where
-    same : (b : ℕ) → b < 2 ^ 5 → getD (lower ++ replicate 32 bytes.zero) b nan ≡ getD (lower ++ replicate 32 bytes.one) b nan
-    same b h = List·getD-append lower (replicate 32 bytes.zero) nan b h ∙ sym (List·getD-append lower (replicate 32 bytes.one) nan b h)
+    same : (b : ℕ) → b < 2 ^ 5 → getD (lower ++ replicate 38 bytes.zero) b nan ≡ getD (lower ++ replicate 32 bytes.one) b nan
+    same b h = List·getD-append lower (replicate 38 bytes.zero) nan b h ∙ sym (List·getD-append lower (replicate 32 bytes.one) nan b h)
 
     at : (b : ℕ) → b < 2 ^ 5 → point (full .state) b ≡ point (fullBoard .state) b
     at b h = λ i. record { re = same b h i; im = same b h i }
 
-met-at-6 : Same service emulator (runFrom 5 promotion) full fullBoard
+met-at-6 : Agreed service emulator (runFrom 5 promotion) full fullBoard
 met-at-6 = on-the-board (runFrom 5 promotion) full fullBoard checkedAt6 runs-to-6 checks-at-6 (lit≤ tt) (lit≤ tt, lit≤ tt) (lit≤ tt, lit≤ tt) agreeing-at-5

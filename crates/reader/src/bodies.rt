@@ -1,6 +1,6 @@
 // The body of each kind of step. The lowest number that refuses is answered: 3 and 6 to 8 of the
 // kernels' rows, 9 to 12 of a projection's, then 14 for a sign or a branch over 1, the caller's row for a
-// promotion at its greatest width. But for a promotion who calls does not matter.
+// promotion at its greatest width. Who calls matters to a promotion alone.
 use crate::FloatAnswer;
 use activepauli::ActivePauli;
 use steps::Cursor;

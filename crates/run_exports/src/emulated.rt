@@ -1,4 +1,5 @@
-// The same calls for the emulator, a board of six qubits: a start over six, or a promotion at six, is refused by 21.
+// Reading, checking, running, carrying and serving for the emulator, a board of six qubits: a start over six, or a
+// promotion at six, is refused by 21.
 // The service's ledger counts none of its runs, and is handed back as it was.
 use crate::seen;
 use crate::seen::SeenEnding;

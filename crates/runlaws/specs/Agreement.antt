@@ -17,8 +17,8 @@ use Rattle.runlaws.specs.Calls.{CheckedRun, checkedRunOf, surveyOf, chec
 use Rattle.runlaws.specs.Frame.{Agreeing}
 use Rattle.runlaws.specs.Mapped.{mapped-accepted}
 use Rattle.runlaws.specs.Roomy.{run-within, widest-room}
-use Rattle.runlaws.specs.TwoCallers.{Same, Own, TwoCallers}
-use Rattle.runlaws.specs.SharedRun.{run-alike, shared-same}
+use Rattle.runlaws.specs.TwoCallers.{Agreed, Own, TwoCallers}
+use Rattle.runlaws.specs.SharedRun.{run-alike, shared-agreed}
 use Rattle.runlaws.specs.OwnRow.{run-or-own, read-or-own}
 
 -- a run that the wide one accepts, and whose width passes the narrow one's greatest
@@ -34,8 +34,8 @@ refuses-own wide narrow order s R e past = go (run-or-own wide narrow order s)
 pub two-callers : (wide narrow : Caller) → narrow .widest ≤ wide .widest → TwoCallers wide narrow
 unfolding checkingWithStart mapped
 two-callers wide narrow order = record {
-  forth = shared-same wide narrow;
-  back = shared-same narrow wide;
+  forth = shared-agreed wide narrow;
+  back = shared-agreed narrow wide;
   narrows = λ s C e.
       let known = mapped-accepted checkedRunOf (runOf narrow s) C e in
       let within = run-within narrow s (known .value) (known .was) .greatest in
@@ -53,14 +53,14 @@ service-and-emulator = two-callers service emulator (leb→le widestEmulated wid
 
 -- On a board that has its 64 amplitudes, and a scratch of 32, nothing is to be known of the run's room.
 pub on-the-board : (s : List ℕ) (m u : Memory) (C : CheckedRun) → isAccepted (running service s m .answer) ≡ true → checkingWithStart service s ≡ accepted C
-    → C .survey .greatest ≤ widestEmulated → HasRoom widestEmulated (u .state) → HasRoom (widestEmulated - 1) (u .scratch) → Agreeing (C .start) (m .state) (u .state) → Same service emulator s m u
+    → C .survey .greatest ≤ widestEmulated → HasRoom widestEmulated (u .state) → HasRoom (widestEmulated - 1) (u .scratch) → Agreeing (C .start) (m .state) (u .state) → Agreed service emulator s m u
 unfolding checkingWithStart
 on-the-board s m u C here checks narrow states mixtures start =
     let known = mapped-accepted checkedRunOf (runOf service s) C checks in
     let R : Run = known .value in
     let small : surveyOf R .greatest ≤ widestEmulated = subst (λ (C : CheckedRun). C .survey .greatest ≤ widestEmulated) (known .is) narrow in
     let room = widest-room emulator u states mixtures s R (run-alike service emulator s R (known .was) small) in
-    shared-same service emulator s m u (record {
+    shared-agreed service emulator s m u (record {
       here = here;
       checked = C;
       checks = checks;

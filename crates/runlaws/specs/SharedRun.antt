@@ -31,7 +31,7 @@ use Rattle.runlaws.specs.Fields.{read-decodes, read-within, step-field, 
 use Rattle.runlaws.specs.Frame.{Agreeing}
 use Rattle.runlaws.specs.Mapped.{mapped-accepted}
 use Rattle.runlaws.specs.Outcomes.{room-both, running-done, running-answers}
-use Rattle.runlaws.specs.TwoCallers.{Shared, Same}
+use Rattle.runlaws.specs.TwoCallers.{Shared, Agreed}
 use Rattle.runlaws.specs.Walk.{walk-by, walk-step, first-step, last-field}
 use Rattle.runlaws.specs.WholeRun.{run-begun, run-allowed}
 
@@ -99,9 +99,9 @@ module _ (a b : Caller) (s : List ℕ) (m u : Memory) where
               ∙ sym (ran-acted b g ts n u again (room-both (surveyOf R) u there .0) (le-refl g) i (rw last at l)));
         }
 
-    same-run : Same a b s m u
+    agreed-run : Agreed a b s m u
     unfolding checkingWithStart running carrying
-    same-run = record {
+    agreed-run = record {
       ending = ends;
       here = running-answers a s m R one here .0;
       there = running-answers b s u R two there .0;
@@ -111,9 +111,9 @@ module _ (a b : Caller) (s : List ℕ) (m u : Memory) where
       carries = λ Q out. rw (one, two);
     }
 
-  pub shared-same : Shared a b s m u → Same a b s m u
+  pub shared-agreed : Shared a b s m u → Agreed a b s m u
   unfolding checkingWithStart
-  shared-same h =
+  shared-agreed h =
       let known = mapped-accepted checkedRunOf (runOf a s) (h .checked) (h .checks) in
       let R : Run = known .value in
       let done = running-done a s m _ (accepted-value (running a s m .answer) (h .here) .is) in
@@ -121,4 +121,4 @@ module _ (a b : Caller) (s : List ℕ) (m u : Memory) where
       let narrow : surveyOf R .greatest ≤ b .widest = subst (λ (C : CheckedRun). C .survey .greatest ≤ b .widest) (known .is) (h .narrow) in
       let room : memoryRow (surveyOf R) u ≡ 0 = subst (λ (C : CheckedRun). memoryRow (C .survey) u ≡ 0) (known .is) (h .room) in
       let start : Agreeing (R .width) (m .state) (u .state) = subst (λ (C : CheckedRun). Agreeing (C .start) (m .state) (u .state)) (known .is) (h .start) in
-      same-run R (known .was) (run-alike a b s R (known .was) narrow) (subst (λ (r : Run). memoryRow (surveyOf r) m ≡ 0) its (done .passed)) room start
+      agreed-run R (known .was) (run-alike a b s R (known .was) narrow) (subst (λ (r : Run). memoryRow (surveyOf r) m ≡ 0) its (done .passed)) room start

@@ -1,4 +1,4 @@
--- THE TWO CALLERS, as it is stated: change request E8, in its own sentences, over the definitions that the calls for reading, checking, running and carrying promise to
+-- THE TWO CALLERS, as they are said to agree: change request E8, its sentences on the reader and on the state, over the definitions that the calls for reading, checking, running and carrying promise to
 -- the service and to the emulator, and `runOf`, on which they stand. Agreement.antt proves it, for any wide and any narrow caller.
 use mathlib.Core.Path.{_≡_}
 use mathlib.Core.Bool.{true}
@@ -35,7 +35,7 @@ pub record Shared (a b : Caller) (s : List ℕ) (m u : Memory) : Type 0 where
 
 -- What comes of it: b accepts the run too and answers the same, and every amplitude is equal in every bit. On one memory running leaves the same in all four buffers,
 -- refused by 13 or not; and carrying the same, whatever Pauli is carried and whatever output is lent.
-pub record Same (a b : Caller) (s : List ℕ) (m u : Memory) : Type 0 where
+pub record Agreed (a b : Caller) (s : List ℕ) (m u : Memory) : Type 0 where
   pub ending : Ending
   pub here : running a s m .answer ≡ accepted ending
   pub there : running b s u .answer ≡ accepted ending
@@ -62,9 +62,9 @@ pub data Own (wide narrow : Caller) (s : List ℕ) : Type 0 where
 -- ---- the theorem
 
 pub record TwoCallers (wide narrow : Caller) : Type 0 where
-  -- What the wide caller accepts, and whose width never passes the narrow one's greatest; and what the narrow one accepts.
-  pub forth : (s : List ℕ) (m u : Memory) → Shared wide narrow s m u → Same wide narrow s m u
-  pub back : (s : List ℕ) (m u : Memory) → Shared narrow wide s m u → Same narrow wide s m u
+  -- A run of the wide caller's whose width never passes the narrow one's greatest is the narrow one's too; and a run of the narrow caller's is the wide one's.
+  pub forth : (s : List ℕ) (m u : Memory) → Shared wide narrow s m u → Agreed wide narrow s m u
+  pub back : (s : List ℕ) (m u : Memory) → Shared narrow wide s m u → Agreed narrow wide s m u
   -- What the narrow caller accepts the wide one accepts, and its width never passes the narrow one's greatest.
   pub narrows : (s : List ℕ) (C : CheckedRun) → checkingWithStart narrow s ≡ accepted C → (checkingWithStart wide s ≡ accepted C) × (C .survey .greatest ≤ narrow .widest)
   -- What the wide caller accepts, and whose width passes the narrow one's greatest, the narrow one refuses by a row of its own.

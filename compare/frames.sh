@@ -1,5 +1,6 @@
 #!/usr/bin/env bash
-# Runs the check of the frame theorem on random runs, by the service and by the emulator, and that the two leave the same.
+# Runs the check of the frame theorem on random runs, by the service and by the emulator, that the two leave the same, and that two
+# corrections carried one after the other are the two carried as one.
 #
 #   frames.sh [ARGUMENTS of the program frames]
 #

@@ -8,12 +8,12 @@
     runs.py bench < run > text           what the program `bench` prints of a run
     runs.py listings PROGRAM SEED COUNT  COUNT random runs given to PROGRAM (target/bin/bench) as well, and compared so
 
-Written from the scope's text (document 01) and, for quarter turns and the emulator,
-from requests E13 and E8 (document 02), which the comments quote, without the Rattle's
-definitions of runs; its writer had seen the Rattle code of reader and checker before,
-the emulator's part was written without any Rattle code. It shares no code with the
-Rattle or the Rust. The kernels' steps are those of model.py; a quarter turn is its
-rotation.
+Written from the scope's text (document 01) and, for quarter turns, the emulator and
+merged corrections, from requests E13, E8 and E11 (document 02), which the comments quote,
+without the Rattle's definitions of runs; its writer had seen the Rattle code of reader and
+checker before, the writers of the emulator's part and of merged corrections were told to
+open none. It shares no code with the Rattle or the Rust. The kernels' steps are those of
+model.py; a quarter turn is its rotation.
 
 A call is its name, a run, numbers (masks after 0x), then the lent buffers as in
 model.py, a bar before each. A run is hexadecimal digits in pieces with commas
@@ -34,13 +34,21 @@ between; `3*` before a piece stands for three of it.
                                     the step that it leaves behind, and the Pauli then
     both RUN width k x z | re | im  demand 3: for each basis the amplitude of (Pauli, run) and of (carried run,
                                     end Pauli), then `same`, `nan` (alike but for NaNs on both sides) or `differ`
+    merge RUN width k x z width k x z
+                                    E11, the first Pauli being B, the second A: carry's answer for B, for A through what
+                                    that leaves, and for B·A, each with an output of 66,000 bytes and its changes
+                                    shown against the run; then `same` where the last two outputs are equal and B's end Pauli
+                                    times A's is that of B·A, else `differ`. A refusal ends the line. A run over
+                                    66,000 bytes, or numbers that are not eight, is `unread`
 
     emulated-step RUN at width
     emulated-check RUN
     emulated-run RUN m n | re | im
     emulated-carry RUN width k x z length
     emulated-both RUN width k x z | re | im
-                                    step, check, run, carry and both for the emulator; the calls above are the service's
+    emulated-merge RUN width k x z width k x z
+                                    step, check, run, carry, both and merge for the emulator; the calls above are the
+                                    service's
 
 `refused` and the number, `at` and the offset where it has one, is a refusal.
 """
@@ -56,6 +64,7 @@ from model import Pauli, Refused, number, parity, refuse, shown
 
 LONGEST = 65536
 FILLED = 0xEE
+HELD = 66000  # Bytes of each output of `merge`, and of the longest run that it reads.
 ROOM = 160  # Floats that a lent buffer may have.
 
 
@@ -237,6 +246,11 @@ def product(a, b):
     return raised(Pauli(a.n, a.k, a.x ^ b.x, a.z ^ b.z), b.k + 2 * parity(a.z & b.x))
 
 
+def meets(pauli, measured, pivot):
+    """Q has, at the pivot, an X part (M.x not 0) or a Z part (M.x = 0)."""
+    return (pauli.x if measured.x else pauli.z) >> pivot & 1
+
+
 def passed(pauli, step):
     """The step that Q leaves behind it, and Q then."""
     kind, *rest = step
@@ -259,7 +273,7 @@ def passed(pauli, step):
     # raised by 2v. Then the pivot's bit is dropped from both masks.
     measured, pivot, branch, invnorm = rest
     new = branch ^ flips
-    if (pauli.x if measured.x else pauli.z) >> pivot & 1:
+    if meets(pauli, measured, pivot):
         pauli = raised(product(pauli, measured), 2 * new)
     x, z = model.drop_bit(pivot, pauli.x), model.drop_bit(pivot, pauli.z)
     return (kind, measured, pivot, new, invnorm), Pauli(pauli.n - 1, pauli.k, x, z)
@@ -340,10 +354,11 @@ def both_sides(run, caller, pauli, re, im):
 
 
 def bytes_of(text):
+    """A count over 66,001 is taken for 66,001: no call reads so long a run."""
     run = b""
     for piece in text.split(","):
         count, star, digits = piece.rpartition("*")
-        run += bytes.fromhex(digits) * (int(count) if star else 1)
+        run += bytes.fromhex(digits) * (min(int(count), HELD + 1) if star else 1)
     return run
 
 
@@ -402,23 +417,54 @@ def told_past(tag, words, floats):
 def told_output(run, out):
     """Where and how the output differs from the run, and whether the bytes past it are kept."""
     changed = [f" {i}:{b:02x}" for i, b in enumerate(out[: len(run)]) if b != run[i]]
-    tail = " kept" if all(b == FILLED for b in out[len(run) :]) else " written"
+    tail = " kept" if out.count(FILLED, len(run)) == len(out) - len(run) else " written"
     return "".join(changed) + tail
+
+
+def carry_into(out, through, caller, pauli):
+    """The output as carrying leaves it, and the end Pauli."""
+    carried, end = carry(through, caller, pauli, len(out))
+    return carried + out[len(carried) :], end
+
+
+def told_carried(run, out, end):
+    return "carried " + end.shown() + told_output(run, out)
 
 
 def told_carry(run, caller, pauli, room):
     out = bytes([FILLED]) * room
     try:
-        carried, end = carry(run, caller, pauli, room)
+        return told_carried(run, *carry_into(out, run, caller, pauli))
     except (Refused, RefusedAt) as refusal:
         return refused(refusal) + told_output(b"", out)
-    return "carried " + end.shown() + told_output(run, carried + out[len(run) :])
 
 
 def told_both(run, caller, pauli, re, im):
     lines, verdict, finite = both_sides(run, caller, pauli, re, im)
     assert verdict == "same" or not finite, "demand 3"
     return " | ".join([*lines, verdict])
+
+
+def told_merge(run, caller, words):
+    """Carrying B and then carrying A through the result must leave the same run as carrying B·A, and B's end
+    Pauli times A's must equal the merged end Pauli, phase included."""
+    if len(run) > HELD or len(words) != 8:
+        return "unread"
+    b, a = Pauli(*words[:4]), Pauli(*words[4:])
+    out, told = bytes([FILLED]) * HELD, []
+    try:
+        first, end_of_b = carry_into(out, run, caller, b)
+        told.append(told_carried(run, first, end_of_b))
+        second, end_of_a = carry_into(out, first[: len(run)], caller, a)
+        told.append(told_carried(run, second, end_of_a))
+        merged, end = carry_into(out, run, caller, product(b, a))
+        told.append(told_carried(run, merged, end))
+    except (Refused, RefusedAt) as refusal:
+        return " | ".join([*told, refused(refusal) + told_output(b"", out)])
+    same = second == merged and product(end_of_b, end_of_a).shown() == end.shown()
+    verdict = "same" if same else "differ"
+    assert verdict == "same", "E11"
+    return " | ".join([*told, verdict])
 
 
 def answer(line):
@@ -446,6 +492,8 @@ def answer(line):
             return told_carry(run, caller, Pauli(*words[:4]), words[4])
         if name == "both":
             return told_both(run, caller, Pauli(*words), *buffers)
+        if name == "merge":
+            return told_merge(run, caller, words)
         if name == "passing":
             return told_past(run[0], words, *buffers)
         assert name == "run"
@@ -534,6 +582,11 @@ def pass_line(q, tag, p=(0, 0, 0, 0), flag=0, pivot=0, floats_of=(0.6, 0.8)):
 
 def both_line(text, width, p, re, im):
     return f"both {text} {width} {p[0]} {p[1]:#x} {p[2]:#x} |{floats(re)} |{floats(im)}"
+
+
+def merge_line(text, b, a):
+    """Paulis with their widths."""
+    return f"merge {text} " + " ".join(f"{n} {k} {x:#x} {z:#x}" for n, k, x, z in (b, a))
 
 
 def length(text):
@@ -1583,11 +1636,276 @@ def emulated_both(lines):
     lines.ask(line, f"0{floats([NAN, 0.0] * 2)} | 1{floats([-0.0, INFINITY] * 2)} | nan")
 
 
+def merging(lines):
+    """Two corrections, one carry: B, then A through what that leaves, and B·A."""
+    merging_projections(lines)
+    merging_turns(lines)
+    merging_kinds(lines)
+    merging_identities(lines)
+    merging_again(lines)
+    merging_wide(lines)
+    merging_longest(lines)
+    merging_refused(lines)
+    merging_emulated(lines)
+    merging_unread(lines)
+
+
+def merged(*ends):
+    """The ends of B, of A and of B·A, each with its changes, where nothing is refused."""
+    return " | ".join([*(f"carried {end} kept" for end in ends), "same"])
+
+
+def merge_all(lines, n, cases):
+    """Steps from n qubits, B and A there, and what each of the three carries ends in."""
+    for steps, b, a, *ends in cases:
+        lines.ask(merge_line(spelled(starting(n), *steps, END), (n, *b), (n, *a)), merged(*ends))
+
+
+# Past an X projection: its branch, B, A, and for B, A and B·A the phase that is left and the branch byte if it is another. X·Z
+# has phase 0, Z·X has 2.
+PAST_X = [
+    (0, X, Z, (0, None), (0, 1), (0, 1)),
+    (1, X, Z, (2, None), (0, 0), (2, 0)),
+    (0, Z, X, (0, 1), (2, 1), (2, 1)),
+    (1, Z, X, (0, 0), (0, 0), (0, 0)),
+    (1, X, X, (2, None), (2, None), (0, None)),
+    (0, Z, Z, (0, 1), (0, None), (0, None)),
+    (0, Y, Y, (1, 1), (3, None), (0, None)),
+    (1, Y, Y, (3, 0), (1, None), (0, None)),
+    (0, Y, X, (1, 1), (2, 1), (3, 1)),
+    (0, X, Y, (0, None), (1, 1), (1, 1)),
+]
+# Past a Z projection, where the Z part decides.
+PAST_Z = [
+    (0, X, Z, (0, 1), (2, 1), (2, 1)),
+    (1, X, Z, (0, 0), (0, 0), (0, 0)),
+    (0, Z, X, (0, None), (0, 1), (0, 1)),
+    (1, Z, X, (2, None), (0, 0), (2, 0)),
+    (0, Y, Y, (3, 1), (1, None), (0, None)),
+]
+# Past a quarter turn of Z and an X projection: X becomes Y, X·Z becomes i X, Z·X becomes -i X.
+TURNED_PAST_X = [
+    (0, X, Z, (1, 1), (0, None), (1, None)),
+    (1, X, Z, (3, 0), (0, None), (3, None)),
+    (0, Z, X, (0, 1), (3, None), (3, None)),
+    (1, Z, X, (0, 0), (1, None), (1, None)),
+]
+
+
+def merge_past(lines, cases, measured, before=(), behind=()):
+    """One qubit measured, the steps before it being quarter turns."""
+    at = length(spelled(starting(1), *before)) + 21
+    left = lambda phase, branch: f"0 {phase} 0x0 0x0" + ("" if branch is None else f" {at}:{branch:02x}")
+    rows = [
+        ([*before, projecting(measured, 0, branch), *behind], b, a, *(left(*end) for end in ends))
+        for branch, b, a, *ends in cases
+    ]
+    merge_all(lines, 1, rows)
+
+
+def merging_projections(lines):
+    lines.say("Two corrections, one carry: B, A through what that leaves, B·A. Past an X projection and a Z projection, by hand.")
+    merge_past(lines, PAST_X, X)
+    merge_past(lines, PAST_Z, Z)
+    lines.say("Past a projection of -X, of Y; of XX and of ZZ, which leave a qubit.")
+    merge_past(lines, [(0, X, Z, (2, None), (0, 1), (2, 1))], (2, 1, 0))
+    merge_past(lines, [(0, Y, X, (0, None), (3, 1), (3, 1))], Y)
+    first_x, second_z = (0, 1, 0), (0, 0, 2)
+    merge_all(lines, 2, [
+        ([projecting((0, 3, 0))], first_x, second_z, "1 0 0x1 0x0", "1 0 0x0 0x1 25:01", "1 0 0x1 0x1 25:01"),
+        ([projecting((0, 3, 0))], second_z, first_x, "1 0 0x0 0x1 25:01", "1 2 0x1 0x0 25:01", "1 0 0x1 0x1 25:01"),
+        ([projecting((0, 0, 3), 1)], first_x, second_z, "1 0 0x1 0x0 25:01", "1 2 0x0 0x1 25:01", "1 2 0x1 0x1 25:01"),
+        ([projecting((0, 0, 3), 1)], second_z, first_x, "1 0 0x0 0x1", "1 0 0x1 0x0 25:01", "1 2 0x1 0x1 25:01"),
+    ])
+
+
+def merging_turns(lines):
+    lines.say("A quarter turn of Z before an X projection; one of -I behind it, on no qubit; both.")
+    minus = turning((2, 0, 0))
+    merge_past(lines, TURNED_PAST_X, X, [turning(Z)])
+    merge_past(lines, PAST_X[:4], X, [], [minus])
+    merge_past(lines, TURNED_PAST_X, X, [turning(Z)], [minus])
+    lines.say("A projection of XX, and a quarter turn of Z behind it on the qubit that is left; another before it.")
+    first_x, second_z = (0, 1, 0), (0, 0, 2)
+    turned = lambda branch: [projecting((0, 3, 0), 0, branch), turning(Z)]
+    merge_all(lines, 2, [
+        (turned(0), first_x, second_z, "1 1 0x1 0x1", "1 0 0x0 0x1 25:01", "1 1 0x1 0x0 25:01"),
+        (turned(1), first_x, second_z, "1 3 0x1 0x1", "1 0 0x0 0x1 25:00", "1 3 0x1 0x0 25:00"),
+        (turned(0), second_z, first_x, "1 0 0x0 0x1 25:01", "1 3 0x1 0x1 25:01", "1 1 0x1 0x0 25:01"),
+        (turned(1), second_z, first_x, "1 0 0x0 0x1 25:00", "1 1 0x1 0x1 25:00", "1 3 0x1 0x0 25:00"),
+        ([turning(Z), *turned(0)], first_x, second_z, "1 2 0x1 0x1 45:01", "1 0 0x0 0x1", "1 2 0x1 0x0"),
+    ])
+    lines.say("Quarter turns alone: one that turns both, B, A; of ZZ, which turns XI to YZ and IX to ZY, and keeps XX.")
+    merge_all(lines, 1, [
+        ([turning(Z)], X, Y, "1 1 0x1 0x1", "1 2 0x1 0x0", "1 1 0x0 0x1"),
+        ([turning(Z)], X, Z, "1 1 0x1 0x1", "1 0 0x0 0x1", "1 1 0x1 0x0"),
+        ([turning(Z)], Z, X, "1 0 0x0 0x1", "1 1 0x1 0x1", "1 3 0x1 0x0"),
+    ])
+    merge_all(lines, 2, [([turning((0, 0, 3))], first_x, (0, 2, 0), "2 1 0x1 0x3", "2 1 0x2 0x3", "2 0 0x3 0x0")])
+
+
+def merging_kinds(lines):
+    lines.say("Rotations by Z and by ZZ: A flips back what B flipped, or B alone flips.")
+    merge_all(lines, 1, [
+        ([rotating(Z, 0)], X, X, "1 0 0x1 0x0 24:01", "1 0 0x1 0x0", "1 0 0x0 0x0"),
+        ([rotating(Z, 1)], X, Z, "1 0 0x1 0x0 24:00", "1 0 0x0 0x1 24:00", "1 0 0x1 0x1 24:00"),
+        ([rotating(Z, 0)], X, Y, "1 0 0x1 0x0 24:01", "1 1 0x1 0x1", "1 1 0x0 0x1"),
+    ])
+    merge_all(lines, 2, [([rotating((0, 0, 3))], (0, 1, 0), (0, 2, 0), "2 0 0x1 0x0 24:01", "2 0 0x2 0x0", "2 0 0x3 0x0")])
+    lines.say("A promotion; corrections Z and Y; no step at all.")
+    merge_all(lines, 1, [
+        ([promoting()], X, Z, "2 0 0x1 0x0", "2 0 0x0 0x1", "2 0 0x1 0x1"),
+        ([promoting()], Z, X, "2 0 0x0 0x1", "2 0 0x1 0x0", "2 2 0x1 0x1"),
+        ([correcting(Z)], X, Z, "1 2 0x1 0x0", "1 0 0x0 0x1", "1 2 0x1 0x1"),
+        ([correcting(Z)], X, X, "1 2 0x1 0x0", "1 2 0x1 0x0", "1 0 0x0 0x0"),
+        ([correcting(Y)], Z, X, "1 2 0x0 0x1", "1 2 0x1 0x0", "1 2 0x1 0x1"),
+        ([], X, Z, "1 0 0x1 0x0", "1 0 0x0 0x1", "1 0 0x1 0x1"),
+        ([], Z, X, "1 0 0x0 0x1", "1 0 0x1 0x0", "1 2 0x1 0x1"),
+    ])
+    lines.say("On no qubit the phases add; also past a quarter turn and a promotion.")
+    none, one = (lambda n, k: f"{n} {k % 4} 0x0 0x0"), [turning((2, 0, 0)), promoting()]
+    for place in range(16):
+        b, a = divmod(place, 4)
+        merge_all(lines, 0, [([], (b, 0, 0), (a, 0, 0), none(0, b), none(0, a), none(0, b + a))])
+    merge_all(lines, 0, [(one, (3, 0, 0), (2, 0, 0), none(1, 3), none(1, 2), none(1, 5))])
+
+
+def merging_identities(lines):
+    lines.say("The identity as B, as A, as both, through every kind of step: it leaves the run, and the identity of the last width.")
+    text, q = spelled(*EVERY_KIND), (2, 3, 3, 2)
+    told = answer(carry_line(text, q[0], q[1:], HELD))
+    _, _, _, _, _, *changes = told.split()
+    assert changes != ["kept"]
+    left = " ".join(["carried 1 0 0x0 0x0", *changes])
+    unchanged = "carried 1 0 0x0 0x0 kept"
+    lines.ask(merge_line(text, (2, *I), q), f"{unchanged} | {told} | {told} | same")
+    lines.ask(merge_line(text, q, (2, *I)), f"{told} | {left} | {told} | same")
+    lines.ask(merge_line(text, (2, *I), (2, *I)), f"{unchanged} | {unchanged} | {unchanged} | same")
+
+
+def merging_again(lines):
+    lines.say("Q and Q again, through every kind of step: the run comes back, and of Q·Q nothing is left but its phase.")
+    steps = [
+        rotating(Z), turning(Y), promoting(), correcting((1, 3, 2)), rotating((0, 2, 1), 1), projecting((0, 3, 0), 1, 1), turning(Z),
+        rotating(X, 1),
+    ]
+    text = spelled(starting(1), *steps, END)
+    squares = [((k, 1, 0), 2 * k % 4) for k in range(4)] + [(Y, 0), ((0, 1, 1), 2), ((3, 1, 1), 0), ((1, 0, 1), 2)]
+    for q, phase in squares:
+        line = merge_line(text, (1, *q), (1, *q))
+        first, second, both, _ = answer(line).split(" | ")
+        assert len(first.split()) > 6 and len(second.split()) == 6, "changed, and changed back"
+        assert both == f"carried 1 {phase} 0x0 0x0 kept"
+        lines.ask(line)
+
+
+def merging_wide(lines):
+    lines.say("Twelve qubits, all masks full, past a rotation, a projection of X on all, and a promotion.")
+    full = 4095
+    steps = [rotating((1, full, 1)), projecting((0, full, 0), 11, 1), promoting()]
+    b = (1, full, full)
+    end_of_b = "12 3 0x0 0x7ff 24:01"
+    merge_all(lines, 12, [
+        (steps, b, (2, full, full), end_of_b, "12 0 0x0 0x7ff", "12 3 0x0 0x0"),
+        (steps, b, (0, 0, full), end_of_b, "12 0 0x0 0x7ff 24:01", "12 3 0x0 0x0 24:01"),
+    ])
+
+
+def merging_longest(lines):
+    lines.say("65,536 bytes: 17 rotations by X, and 3,245 corrections X; the same with quarter turns of Z, whole rounds and one more.")
+    signs = "".join(f" {4 + 37 * place + 20}:01" for place in range(17))
+    rotations, most = (17, rotating()), 3245
+    assert length(spelled(starting(1), rotations, (most, correcting()), END)) == LONGEST
+    merge_all(lines, 1, [
+        ([rotations, (most, correcting())], X, Z, "1 0 0x1 0x0", f"1 2 0x0 0x1{signs}", f"1 2 0x1 0x1{signs}"),
+        ([rotations, (most, correcting())], Z, Z, f"1 2 0x0 0x1{signs}", "1 2 0x0 0x1", "1 0 0x0 0x0"),
+        ([rotations, (most, turning(Z))], X, Z, "1 1 0x1 0x1", f"1 0 0x0 0x1{signs}", f"1 1 0x1 0x0{signs}"),
+    ])
+    lines.say("One byte more, and 66,000 bytes: 14 at 0.")
+    over = spelled(starting(1), (10, rotating()), (3258, correcting()), END)
+    filled = spelled(starting(1), END, (HELD - 7, bytes(1)))
+    assert length(over) == LONGEST + 1 and length(filled) == HELD
+    for text in (over, filled):
+        lines.ask(merge_line(text, (1, *X), (1, *Z)), "refused 14 at 0 kept")
+
+
+def merging_refused(lines):
+    lines.say("B no Pauli, or on other qubits; it is looked at before A.")
+    good = spelled(starting(2), rotating((0, 0, 1)), END)
+    none = [(2, 4, 0, 0), (2, 0, 4, 0), (2, 0, 0, 4), (257, *I), (3, 4, 0, 0), (1, 0, 2, 0)]
+    others = [(0, *I), (1, *X), (3, *I), (256, *I)]
+    ok = (2, *X)
+    for row, paulis in ((3, none), (4, others)):
+        for p in paulis:
+            lines.ask(merge_line(good, p, ok), f"refused {row} kept")
+    lines.ask(merge_line(good, others[0], none[0]), "refused 4 kept")
+    lines.ask(merge_line(good, none[0], others[0]), "refused 3 kept")
+    lines.say("A no Pauli, or on other qubits, behind B's part; B and A on the same wrong qubits, or on those of the end.")
+    told = "carried 2 0 0x1 0x0 24:01 kept"
+    for row, paulis in ((3, none), (4, others)):
+        for p in paulis:
+            lines.ask(merge_line(good, ok, p), f"{told} | refused {row} kept")
+    lines.ask(merge_line(good, (3, *X), (3, *X)), "refused 4 kept")
+    shrunk = spelled(starting(2), projecting((0, 0, 1)), END)
+    lines.ask(merge_line(shrunk, (1, *X), (1, *X)), "refused 4 kept")
+    lines.ask(merge_line(shrunk, (2, 0, 2, 0), (1, *X)), "carried 1 0 0x1 0x0 kept | refused 4 kept")
+    lines.say("A refused run: its row and its place, once, before 3 and 4 of B and A.")
+    for run, told in (
+        ([starting(2), correcting((4, 0, 0)), END], "3 at 4"),
+        ([starting(2), turning((1, 1, 0)), END], "7 at 4"),
+        ([starting(2), rotating(X, 2), END], "14 at 4"),
+        ([starting(2)], "14 at 4"),
+        ([starting(12), promoting(), END], "15 at 4"),
+        ([], "14 at 0"),
+    ):
+        for b, a in ((ok, ok), (none[0], ok), (others[0], none[0])):
+            lines.ask(merge_line(spelled(*run), b, a), f"refused {told} kept")
+
+
+def merging_emulated(lines):
+    """As the service where the board has room, and 21 where not."""
+    lines.say("Merged by the emulator: as by the service; 21 before 3 and 4 of B and A; 3 and 4 of B and of A alone.")
+    to_six = [promoting(), rotating((0, 33, 0)), projecting((0, 48, 1), 4), promoting()]
+    for run, b, a in (
+        ([starting(1), projecting(), END], (1, *Z), (1, *X)),
+        (EVERY_KIND, (2, 3, 3, 2), (2, 0, 1, 3)),
+        ([starting(5), *to_six, END], (5, 1, 31, 31), (5, 2, 17, 9)),
+        ([starting(6), turning((0, 32, 1)), projecting((0, 0, 63), 5, 1), END], (6, 3, 63, 32), (6, 0, 1, 63)),
+    ):
+        line = merge_line(spelled(*run), b, a)
+        lines.ask(on_emulator(line), answer(line))
+    six, seven = spelled(starting(6), promoting(), END), spelled(starting(7), END)
+    lines.ask(merge_line(six, (6, *X), (6, *Z)), merged("7 0 0x1 0x0", "7 0 0x0 0x1", "7 0 0x1 0x1"))
+    lines.ask(merge_line(seven, (7, *X), (7, *Z)), merged("7 0 0x1 0x0", "7 0 0x0 0x1", "7 0 0x1 0x1"))
+    for text, n, at in ((six, 6, 4), (seven, 7, 0)):
+        for b, a in (((n, *X), (n, *Z)), ((n, 4, 0, 0), (n, *Z)), ((n + 1, *X), (n, 4, 0, 0))):
+            lines.ask(on_emulator(merge_line(text, b, a)), f"refused 21 at {at} kept")
+    one, told = spelled(starting(1), END), "carried 1 0 0x1 0x0 kept"
+    for row, p in ((3, (1, 4, 0, 0)), (4, (2, *I))):
+        lines.ask(on_emulator(merge_line(one, p, (1, *X))), f"refused {row} kept")
+        lines.ask(on_emulator(merge_line(one, (1, *X), p)), f"{told} | refused {row} kept")
+
+
+def merging_unread(lines):
+    lines.say("Not read: no number, one Pauli, one number too few, one too many; a run of 66,001 bytes.")
+    text = spelled(starting(1), END)
+    whole = merge_line(text, (1, *X), (1, *Z))
+    for line in (f"merge {text}", f"merge {text} 1 0 0x1 0x0", whole.rpartition(" ")[0], whole + " 0x1"):
+        lines.ask(line, "unread")
+        lines.ask(on_emulator(line), "unread")
+    lines.ask(merge_line(spelled(starting(1), END, (HELD - 6, bytes(1))), (1, *X), (1, *Z)), "unread")
+    lines.say("The greatest count, of a byte and of no byte.")
+    most = 2**64 - 1
+    lines.ask(merge_line(spelled(starting(1), END, (most, bytes(1))), (1, *X), (1, *Z)), "unread")
+    told = merged("1 0 0x1 0x0", "1 0 0x0 0x1", "1 0 0x1 0x1")
+    lines.ask(merge_line(spelled(starting(1), (most, b""), END), (1, *X), (1, *Z)), told)
+
+
 def limits():
     lines = Lines()
     for section in (
         fields, starts, reads, accepted, single_rows, rows_together, wrong_fields, wrong_places,
-        two_fields, cuts, lengths, room, values, carrying, passes, emulated,
+        two_fields, cuts, lengths, room, values, carrying, passes, emulated, merging,
     ):
         section(lines)
     return lines.lines
@@ -1696,6 +2014,43 @@ def both_turned(lines):
         lines.ask(line)
 
 
+def merges():
+    """Accepted runs with two Paulis on their start qubits: E11 promises `same`, whatever the floats are."""
+    rng, lines, met, turned = random.Random(11), Lines(), {}, {}
+    lines.say("Runs of every kind of step from 0 to 5 qubits, and B and A of any phase: the same by E11.")
+    kinds, emulator = set(), []
+    for place in range(150):
+        n = place % 6
+        run = random_run(rng, n, rng.randrange(1, 9), 6)
+        kinds |= {field_of[0] for field_of in run}
+        b, a = ((n, rng.randrange(4), rng.randrange(2**n), rng.randrange(2**n)) for _ in (0, 1))
+        line = merge_line(spelled(*run), b, a)
+        assert answer(line).endswith(" | same")
+        lines.ask(line)
+        emulator += [line] * (place % 5 == 0)
+        count_meetings(b"".join(run), Pauli(*b), Pauli(*a), met, turned)
+    assert kinds == {1, 2, 3, 4, 5, 6, 7}
+    # Of B and of A, at a projection's pivot and at a quarter turn.
+    assert all(seen.get((b, a), 0) > 9 for seen in (met, turned) for b in (0, 1) for a in (0, 1)), (met, turned)
+    lines.say("Thirty of them by the emulator.")
+    for line in emulator:
+        lines.ask(on_emulator(line), answer(line))
+    return lines.lines
+
+
+def count_meetings(run, b, a, met, turned):
+    """How many projections have B, A, both or neither at their pivot, and how many quarter turns turn them; A goes past what B leaves."""
+    for _, step in walk(run, SERVICE)[1]:
+        left, after = passed(b, step)
+        if step[0] == "projection":
+            key = meets(b, *step[1:3]), meets(a, *left[1:3])
+            met[key] = met.get(key, 0) + 1
+        elif step[0] == "quarter-turn":
+            key = anticommute(b, step[1]), anticommute(a, left[1])
+            turned[key] = turned.get(key, 0) + 1
+        b, a = after, passed(a, left)[1]
+
+
 def buffers_of(line):
     return [[number(int(word, 16)) for word in part.split()] for part in line.split("|")[1:]]
 
@@ -1782,11 +2137,11 @@ def random_buffer(rng, exact):
 
 
 def random_line(rng):
-    shares = {"check": 20, "run": 16, "carry": 16, "passing": 8, "both": 11, "step": 8, "field": 4, "start": 4, "cuts": 1}
+    shares = {"check": 20, "run": 16, "carry": 16, "passing": 8, "both": 11, "step": 8, "merge": 8, "field": 4, "start": 4, "cuts": 1}
     call = rng.choices(list(shares), list(shares.values()))[0]
     if call == "passing":
         return random_pass(rng)
-    if call in ("check", "run", "carry", "both", "step") and rng.randrange(3) == 0:
+    if call in ("check", "run", "carry", "both", "step", "merge") and rng.randrange(3) == 0:
         # The emulator, and some of the same runs on the service: around its six qubits and few.
         line = random_run_line(rng, call, *rng.choice([(2, 6), (4, 7), (5, 6), (5, 7), (5, 8), (6, 6), (6, 7), (6, 8), (7, 8)]))
         step = f"{line} {rng.choice([6, 6, 7, 12])}" if call == "step" else line
@@ -1815,15 +2170,24 @@ def random_run_line(rng, call, n, widest):
         state, left = (2**greatest, scratch) if greatest <= 7 else (33, min(scratch, 33))
         sizes = [max(0, left + rng.choice([0, 0, 0, 0, 0, -1, 1])) for _ in (0, 1)]
         return run_line(text, *[random_buffer(rng, state) for _ in (0, 1)], *sizes)
-    width = n if rng.randrange(8) else rng.choice([0, n + 1, 256, 257])
-    q = [rng.randrange(4), rng.randrange(2**n), rng.randrange(2**n)]
-    if rng.randrange(12) == 0:
-        q[rng.randrange(3)] = rng.choice([4, 2**n, 255])
+    if call == "merge":
+        line = merge_line(text, *(any_pauli(rng, n) for _ in (0, 1)))
+        return line if rng.randrange(30) else rng.choice([line + " 0", line.rpartition(" ")[0]])
+    width, *q = any_pauli(rng, n)
     if call == "carry":
         out = max(0, len(run) + rng.choice([0, 0, 0, 1, 5, -1, -len(run), 250]))
         return carry_line(text, width, q, out)
     first = min(start(run) or 0, 7)  # A wider run has no room in the program's buffers.
     return both_line(text, width, q, *random_state(rng, first, rng.randrange(5) > 0))
+
+
+def any_pauli(rng, n):
+    """Width, k, x, z: on n qubits, or now and then on others, or no Pauli."""
+    width = n if rng.randrange(8) else rng.choice([0, n + 1, 256, 257])
+    q = [rng.randrange(4), rng.randrange(2**n), rng.randrange(2**n)]
+    if rng.randrange(12) == 0:
+        q[rng.randrange(3)] = rng.choice([4, 2**n, 255])
+    return width, *q
 
 
 def random_pass(rng):
@@ -1846,7 +2210,10 @@ def kind_of(asked, told):
         return call
     if words[0] == "refused":
         return f"{call} refused {words[1]}"
-    return f"{call} {words[-1] if call.removeprefix(EMULATED) == 'both' else 'answered' if words[0].isdigit() else words[0]}"
+    name = call.removeprefix(EMULATED)
+    if name == "merge" and "refused" in words:
+        return f"{call} refused {words[words.index('refused') + 1]} of A"
+    return f"{call} {words[-1] if name in ('both', 'merge') else 'answered' if words[0].isdigit() else words[0]}"
 
 
 def fuzz(program, seed, count):
@@ -1913,7 +2280,7 @@ def listings(program, seed, count):
 
 
 def write(crates):
-    lines = [*limits(), "# ---- both ways of demand 3", *replay()]
+    lines = [*limits(), "# ---- both ways of demand 3", *replay(), "# ---- two corrections, one carry", *merges()]
     for file, texts in (("stdin", lines), ("stdout", map(answer, lines))):
         with open(f"{crates}/run_vectors/{file}", "w") as out:
             out.write("".join(text + "\n" for text in texts))

@@ -11,6 +11,7 @@ pub mod draw;
 pub mod floats;
 pub mod lent;
 pub mod listings;
+pub mod merging;
 pub mod mutate;
 pub mod numbers;
 pub mod offers;

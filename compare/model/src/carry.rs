@@ -133,6 +133,26 @@ mod tests {
         assert_eq!(end, pauli(0, 1, 0));
     }
 
+    /// X and Z past an X projection, in both orders and with either branch: B, then A past what that leaves, then B·A, by hand.
+    #[test]
+    fn merged_past_a_projection() {
+        let (x, z) = (pauli(0, 1, 0), pauli(0, 0, 1));
+        let cases = [
+            (x, z, 0, [(0, 0), (1, 0), (1, 0)]),
+            (x, z, 1, [(1, 2), (0, 0), (0, 2)]),
+            (z, x, 0, [(1, 0), (1, 2), (1, 2)]),
+            (z, x, 1, [(0, 0), (0, 0), (0, 0)]),
+        ];
+        for (b, a, branch, told) in cases {
+            let first = past_x_projection(b, branch);
+            let second = past_x_projection(a, first.0);
+            let merged = past_x_projection(b.times(a), branch);
+            let phases = [first, second, merged].map(|(branch, end)| (branch, end.k));
+            assert_eq!(phases, told);
+            assert_eq!((second.0, first.1.times(second.1)), merged);
+        }
+    }
+
     /// By hand, -i P Q: X, Y and Z past quarter turns of X, Y, Z and of -Z.
     #[test]
     fn quarter_turns() {

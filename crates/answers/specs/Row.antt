@@ -103,6 +103,18 @@ module _ {A : Type 0} where
   accepted-row zero a b e = (refl, accepted-same e)
   accepted-row (suc r) a b e = absurd (refused-accepted (sym e))
 
+-- whatever else is answered, the row alone decides whether it is refused, and by which number
+module _ {A : Type 0} where
+  pub row-accepts : (r : ℕ) (a b : A) → isAccepted (answered r a) ≡ isAccepted (answered r b)
+  unfolding isAccepted answered
+  row-accepts zero a b = refl
+  row-accepts (suc r) a b = refl
+
+  pub row-refuses : (r : ℕ) (a b : A) (n : ℕ) → answered r a ≡ refused n → answered r b ≡ refused n
+  unfolding answered
+  row-refuses zero a b n e = absurd (refused-accepted (sym e))
+  row-refuses (suc r) a b n e = e
+
 -- the value of an accepted answer
 pub record HasValue {A : Type 0} (a : Answer A) : Type 0 where
   pub value : A

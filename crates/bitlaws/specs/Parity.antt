@@ -89,3 +89,8 @@ overlap-xor-r z a b = overlap-comm z (bitXor a b) ∙ overlap-xor-l a b z ∙ ap
 pub bit-differs : (t : Bool) (p : ℕ) → p < 2 → unlike t (eqb p 1) ≡ eqb ((bitOf t + p) % 2) 1
 bit-differs true = by-digit (λ p. unlike true (eqb p 1) ≡ eqb ((bitOf true + p) % 2) 1) refl refl
 bit-differs false = by-digit (λ p. unlike false (eqb p 1) ≡ eqb ((bitOf false + p) % 2) 1) refl refl
+
+-- two digits differ where their sum is odd
+pub digits-differ : (a b : ℕ) → a < 2 → b < 2 → eqb ((a + b) % 2) 1 ≡ unlike (eqb a 1) (eqb b 1)
+digits-differ a b ha hb =
+    by-digit (λ a. eqb ((a + b) % 2) 1 ≡ unlike (eqb a 1) (eqb b 1)) (sym (bit-differs false b hb)) (sym (bit-differs true b hb)) a ha

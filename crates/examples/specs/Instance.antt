@@ -49,13 +49,13 @@ use Rattle.runlaws.specs.Theorem.{frame-at-the-service}
 use Rattle.examples.specs.Runs as bytes
 use Rattle.examples.specs.Runs.{one}
 
-abbrev Y : Pauli
+abbrev pub Y : Pauli
 Y = record { n = 1; k = 1; x = 1; z = 1 }
 
 -- Rotations by Z, X and Y, the three kinds; a qubit promoted; a quarter turn of Z on qubit 0 and X on qubit 1, with X and Z parts, with which Y on qubit 0
 -- anticommutes: the formulas need finite amplitudes there. Then a projection of Y on qubit 0, with an X part, and one of Z; a qubit promoted again; a correction X. The
 -- signs and branches are the arguments.
-abbrev steps : ℕ → ℕ → ℕ → ℕ → ℕ → List ℕ
+abbrev pub steps : ℕ → ℕ → ℕ → ℕ → ℕ → List ℕ
 steps z x y mixing diagonal =
     bytes.runFrom 1
     (λ rest.
@@ -91,11 +91,11 @@ end = record { n = 1; k = 1; x = 0; z = 0 }
 -- ---- the hypotheses
 
 -- lent to carrying: other bytes, longer by one than the run
-abbrev output : List ℕ
+abbrev pub output : List ℕ
 output = bytes.outputFor run
 
 -- the answer, and what is left in the output, whole
-outcome : carrying service run Y output ≡ record { answer = accepted end; lent = bytes.filledWith carried }
+pub outcome : carrying service run Y output ≡ record { answer = accepted end; lent = bytes.filledWith carried }
 unfolding carrying onRun carryingRow carriedRun runOf begun startWidth mapped walk follow ended readAt readField judged judgedBy unless decoded fieldAt isWhole bodyLength number floatAt pauliAt fits hermitian coefficient ys flagged flagAt fieldSize carriedSteps carriedStep passed flipped anti product deciding meets absorbed widened turnedBy turnedPast endPauli raised dropped dropBit widthAfter stepRow rotationStepRow promotionStepRow projectionStepRow rotationKernelRow measurementRow hermitianRow widthRow unitRow promotedWidthRow pivotRow pivotMask inUnit row first answered left le neg ofBits digit overlap parity ones onesIn
 outcome = refl
 

@@ -3,4 +3,5 @@ pub mod Starred
 pub mod QuarterTurns
 pub mod Instance
 pub mod Emulator
+pub mod TwoCorrections
 pub mod Seven

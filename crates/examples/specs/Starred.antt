@@ -72,7 +72,7 @@ abbrev xProjection : ℕ → List ℕ
 xProjection branch = runFrom 1 (projection 0 1 0 0 branch)
 
 -- the identity on no qubits, with this phase
-abbrev phase : ℕ → Pauli
+abbrev pub phase : ℕ → Pauli
 phase k = record { n = 0; k = k; x = 0; z = 0 }
 
 -- what carrying a Pauli through a run gives, into an output of other bytes, longer by one: the end Pauli, and the carried run in it, the last byte as it was

@@ -26,5 +26,9 @@ pub mod CallerRows
 pub mod Fitted
 pub mod PassRow
 pub mod Suited
+pub mod MergedProjection
+pub mod MergedQuarterTurn
+pub mod Merging
+pub mod Identity
 pub mod List
 pub mod Acted

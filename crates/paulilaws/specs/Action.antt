@@ -89,7 +89,7 @@ exchange A B s =
     (sym (overlap-xor-l b (A .x) (B .z))))
     (xor-swap b (B .x) (A .x))
 
-anti-lt : (A B : Pauli) → anti A B < 2
+pub anti-lt : (A B : Pauli) → anti A B < 2
 unfolding anti
 anti-lt A B = mod-two (overlap (A .x) (B .z) + overlap (A .z) (B .x))
 

@@ -4,10 +4,11 @@ use Prim.Native.Nat.{ℕ, _+_, _-_, _*_, _%_}
 use native.Mathlib.Nat.{mod-add-mod}
 use native.Mathlib.Omega.{arith}
 use lib.Bits.{bitXor}
+use Rattle.bitlaws.specs.Digit.{digit}
 use Rattle.bitlaws.specs.Opening.{openBit, dropBit, drop-open}
-use Rattle.bitlaws.specs.Parity.{overlap}
-use Rattle.bitlaws.specs.Pivot.{drop-xor, overlap-open}
-use Rattle.paulilaws.specs.Pauli.{Pauli}
+use Rattle.bitlaws.specs.Parity.{overlap, overlap-lt}
+use Rattle.bitlaws.specs.Pivot.{drop-xor, overlap-open, overlap-drop}
+use Rattle.paulilaws.specs.Pauli.{Pauli, product, same}
 use Rattle.paulilaws.specs.Action.{Ket, ket-same, onKet, turned}
 use Rattle.paulilaws.specs.Fitting.{Fitting, phase-small}
 
@@ -42,3 +43,12 @@ dropped-acts q P s =
     ket-same
     (ap (λ (m : ℕ). (s .phase + P .k + 2 * m) % 4) (sym (overlap-open q (s .basis) (P .z))))
     (sym (drop-xor q (openBit q (s .basis)) (P .x) ∙ ap (λ (m : ℕ). bitXor m (dropBit q (P .x))) (drop-open q (s .basis))))
+
+-- a qubit may be dropped before two Paulis are multiplied where the first's Z part and the second's X part are not both on it
+pub dropped-product : (q : ℕ) (A B : Pauli) → digit q (A .z) * digit q (B .x) ≡ 0 → product (dropped q A) (dropped q B) ≡ dropped q (product A B)
+unfolding product dropped
+dropped-product q A B none =
+    same refl (ap (λ (o : ℕ). (A .k + B .k + 2 * o) % 4) parity) (sym (drop-xor q (A .x) (B .x))) (sym (drop-xor q (A .z) (B .z)))
+  where
+    parity : overlap (dropBit q (A .z)) (dropBit q (B .x)) ≡ overlap (A .z) (B .x)
+    parity = sym (overlap-drop q (A .z) (B .x) ∙ omega (arith, none, overlap-lt (dropBit q (A .z)) (dropBit q (B .x))))

@@ -5,4 +5,5 @@ pub mod Letter
 pub mod Support
 pub mod Fitting
 pub mod Frame
+pub mod Exchange
 pub mod Printed

@@ -1,5 +1,6 @@
 // The calls, by what they are lent.
 use crate::both;
+use crate::merge;
 use crate::write;
 use activepauli::ActivePauli;
 use callers::Caller;
@@ -23,6 +24,12 @@ pub(crate) fn call(call: u8, run: &[u8], words: [u64; 12], rest: &[u8]) {
         b'K' => write::check(checker::check_emulated(run)),
         b's' => cuts(run),
         b'y' | b'Y' => carry(run, words, who(call)),
+        b'e' | b'E' => merge::merged(
+            run,
+            read::first_pauli(words),
+            second_pauli(words),
+            who(call),
+        ),
         b'g' => past(run, words, rest),
         _ => with_re(call, run, words, rest),
     }
@@ -65,11 +72,7 @@ fn carry(run: &[u8], words: [u64; 12], caller: Caller) {
 }
 
 fn carry_to(run: &[u8], pauli: ActivePauli, out: &mut [u8], caller: Caller) {
-    if write::carried(carry_for(run, pauli, out, caller)) {
-        write::output(run, out);
-    } else {
-        write::output(&run[0..0], out);
-    }
+    write::carry(carry_for(run, pauli, out, caller), run, out);
 }
 
 pub(crate) fn carry_for(

@@ -4,6 +4,7 @@
 // comment.
 mod ask;
 mod both;
+mod merge;
 mod text;
 mod write;
 

@@ -18,7 +18,7 @@ pub(crate) fn call(name: &[u8]) -> u8 {
 }
 
 // How many numbers a call takes: check, cuts and start; field; run, and the emulator's step; step; both; carry;
-// passing. 98 where there is no such call.
+// merge; passing. 98 where there is no such call.
 pub(crate) fn arity(call: u8) -> usize {
     match call {
         b'k' | b'K' | b's' | b't' => 0,
@@ -27,6 +27,7 @@ pub(crate) fn arity(call: u8) -> usize {
         b'p' => 3,
         b'h' | b'H' => 4,
         b'y' | b'Y' => 5,
+        b'e' | b'E' => 8,
         b'g' => 10,
         _ => 98,
     }
@@ -64,12 +65,18 @@ fn count(text: &[u8]) -> usize {
     form::index(count)
 }
 
-// The same digits, so many times.
+// The same digits, so many times, until there is no room for more; fewer than two digits are no byte.
 fn times(count: usize, digits: &[u8], out: &mut [u8], at: usize) -> usize {
+    if digits.len() < 2 {
+        return at;
+    }
     let mut end = at;
     let mut k = 0;
     while k < count {
         end = hex(digits, out, end);
+        if end == usize::MAX {
+            return end;
+        }
         k += 1;
     }
     end

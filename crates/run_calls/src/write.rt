@@ -175,8 +175,17 @@ fn end(pauli: ActivePauli) {
     write::pauli(pauli);
 }
 
+// The end Pauli, and where the output differs from the run; or the refusal, and whether the output is as it was lent.
+pub(crate) fn carry(answer: CarryAnswer, run: &[u8], out: &[u8]) {
+    if carried(answer) {
+        output(run, out);
+    } else {
+        output(&run[0..0], out);
+    }
+}
+
 // Whether the run was carried.
-pub(crate) fn carried(answer: CarryAnswer) -> bool {
+fn carried(answer: CarryAnswer) -> bool {
     match answer {
         CarryAnswer::Carried(pauli) => end(pauli),
         CarryAnswer::Refused(row) => {
@@ -193,7 +202,7 @@ pub(crate) fn carried(answer: CarryAnswer) -> bool {
 
 // Where and how an output differs from the run that was carried, and whether the bytes past it are those
 // that were lent.
-pub(crate) fn output(run: &[u8], out: &[u8]) {
+fn output(run: &[u8], out: &[u8]) {
     let n = run.len();
     if out.len() < n {
         return;
@@ -275,7 +284,13 @@ fn larger(a: u8, b: u8) -> u8 {
     if a < b { b } else { a }
 }
 
-fn verdict(worst: u8) {
+// Between two answers on one line.
+pub(crate) fn bar() {
+    word(b" | ");
+}
+
+// 0 for `same`, 1 for `nan`, else `differ`.
+pub(crate) fn verdict(worst: u8) {
     match worst {
         0 => word(b"same"),
         1 => word(b"nan"),

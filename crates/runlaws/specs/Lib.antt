@@ -21,8 +21,14 @@ pub mod OwnBytes
 pub mod Flagged
 pub mod Reread
 pub mod Altered
+pub mod Overwritten
 pub mod Frame
+pub mod Sent
 pub mod Theorem
+pub mod TwoCorrections
+pub mod OneCarry
+pub mod Undoing
+pub mod Merging
 pub mod Exact
 pub mod Roomy
 pub mod Numbers

@@ -1,16 +1,16 @@
 -- The frame theorem, proved: Frame.antt states it. For any caller whose states can all be corrected, and so for the service and for the emulator.
 use mathlib.Core.Path.{_≡_, sym, ap, _∙_, subst}
 use mathlib.Core.Bool.{true}
-use mathlib.Core.List.{List, _++_}
+use mathlib.Core.List.{List}
 use mathlib.Core.Logic.{_⊎_}
 use mathlib.Core.Option.{some}
 use Prim.Native.Nat.{ℕ, _≤_}
 use native.Mathlib.Nat.{le-trans}
 use native.Mathlib.Omega.{arith}
 use lib.Dec.{leb→le}
-use lib.ListN.{length, take, drop}
-use lib.Seq.{take-at, drop-at}
-use borrow.Author.Tests.{le-ltb, eq-eqb}
+use lib.ListN.{length, drop}
+use lib.Seq.{drop-at}
+use borrow.Author.Tests.{le-ltb}
 use Rattle.answers.specs.Answer.{isAccepted}
 use Rattle.answers.specs.Answer.Answer.{accepted}
 use Rattle.answers.specs.Row.{row, first, accepted-same, accepted-value, left-some, left-none, some-row}
@@ -35,11 +35,12 @@ use Rattle.framelaws.specs.Surveyed.{survey-width, survey-greatest, survey-grea
 use Rattle.runlaws.specs.Bytes.{byteAt}
 use Rattle.runlaws.specs.Flags.{FlagIn}
 use Rattle.runlaws.specs.Run.{Run, runOf}
-use Rattle.runlaws.specs.Calls.{Ending, endingOf, surveyOf, memoryRow, running, carryingRow, carriedRun, carrying}
+use Rattle.runlaws.specs.Calls.{Ending, endingOf, surveyOf, memoryRow, running, carriedRun, carrying}
 use Rattle.runlaws.specs.Frame.{Agreeing, fired, sent, Accepted, Frame, FrameTheorem}
 use Rattle.runlaws.specs.Altered.{altered}
-use Rattle.runlaws.specs.Outcomes.{room-both, running-done, running-answers, running-kept, carrying-passed, carrying-done, carrying-answers, carrying-kept}
-use Rattle.runlaws.specs.Reread.{carried-length, reread}
+use Rattle.runlaws.specs.Outcomes.{room-both, running-done, running-answers, running-kept, carrying-answers, carrying-kept}
+use Rattle.runlaws.specs.Reread.{carried-length}
+use Rattle.runlaws.specs.Sent.{may-carry, carriedOf, Sent, sent-accepted}
 use Rattle.runlaws.specs.WholeRun.{run-allowed}
 
 -- ---- what the rows of the calls let pass
@@ -53,11 +54,6 @@ room-row v m a b = rw (a, b)
 pub may-fire : (P : Pauli) (S : State) → Admitted P → P .n ≤ widestKernel → room (P .n) S ≡ true → correctionRow P S ≡ 0
 unfolding correctionRow widthRow roomRow row first
 may-fire P S f h r = rw (admitted-fits P f, le-ltb widestKernel (P .n) h, r)
-
--- or to carry one through a run of its own width
-pub may-carry : (Q : Pauli) (width size room : ℕ) → Admitted Q → Q .n ≡ width → size ≤ room → carryingRow Q width size room ≡ 0
-unfolding carryingRow row
-may-carry Q width size room f e h = rw (admitted-fits Q f, eq-eqb (Q .n) width e, le-ltb room size h)
 
 -- what firing leaves, where a row refuses it and where none does
 fired-refused : (P : Pauli) (m : Memory) → (correctionRow P (m .state) ≡ 0 → ⊥) → fired P m ≡ m
@@ -80,12 +76,9 @@ module _ (caller : Caller) (narrow : caller .widest ≤ widestKernel) (s out : L
   abbrev t : List ℕ
   t = sent caller s Q out
 
-  module _ (R : Run) (read : runOf caller s ≡ accepted R) (here : memoryRow (surveyOf R) m ≡ 0) (there : memoryRow (surveyOf R) u ≡ 0)
-      (admitted : Admitted Q) (width : Q .n ≡ R .width) (answer : carrying caller s Q out .answer ≡ accepted (endPauli Q (R .steps)))
-      (output : carrying caller s Q out .lent ≡ carriedRun Q R s ++ drop (length s) out) (agree : Agreeing (Q .n) (m .state) (u .state)) where
-    -- the run that the carried bytes are read as
-    abbrev carriedOf : Run
-    carriedOf = record { width = R .width; steps = carriedSteps Q (R .steps) }
+  module _ (R : Run) (known : Sent caller s Q out R) (here : memoryRow (surveyOf R) m ≡ 0) (there : memoryRow (surveyOf R) u ≡ 0)
+      (agree : Agreeing (Q .n) (m .state) (u .state)) where
+    open Sent known using (read, admitted, width, ends as answer, output, is as is-sent, size, again as sent-read)
 
     abbrev last : ℕ
     last = lastWidth (R .width) (R .steps)
@@ -96,12 +89,6 @@ module _ (caller : Caller) (narrow : caller .widest ≤ widestKernel) (s out : L
     abbrev end : Pauli
     end = endPauli Q (R .steps)
 
-    is-sent : t ≡ carriedRun Q R s
-    is-sent = ap (take (length s)) output ∙ take-at (carriedRun Q R s) (drop (length s) out) (length s) (carried-length Q R s)
-
-    size : length t ≡ length s
-    size = ap length is-sent ∙ carried-length Q R s
-
     flags : (i : ℕ) → (byteAt t i ≡ byteAt s i) ⊎ FlagIn 4 (R .steps) i
     flags = rw is-sent (altered Q R s)
 
@@ -109,7 +96,7 @@ module _ (caller : Caller) (narrow : caller .widest ≤ widestKernel) (s out : L
     unfolding surveyOf
     greatest = omega arith
 
-    same-survey : surveyOf carriedOf ≡ surveyOf R
+    same-survey : surveyOf (carriedOf Q R) ≡ surveyOf R
     unfolding surveyOf
     same-survey = survey-carried Q (R .width) (R .steps)
 
@@ -117,17 +104,14 @@ module _ (caller : Caller) (narrow : caller .widest ≤ widestKernel) (s out : L
     unfolding surveyOf
     last-width = survey-width (R .width) (R .steps)
 
-    sent-read : runOf caller t ≡ accepted carriedOf
-    sent-read = rw is-sent (reread caller s Q R read)
-
     sent-runs : (running caller t u .answer ≡ accepted E) × (running caller t u .lent ≡ ran (R .width) (carriedSteps Q (R .steps)) u)
     sent-runs =
-        let known = running-answers caller t u carriedOf sent-read (rw same-survey there) in
+        let known = running-answers caller t u (carriedOf Q R) sent-read (rw same-survey there) in
         (known .0 ∙ ap (λ (v : Survey). accepted (endingOf v)) same-survey, known .1)
 
     sent-carries : (o : List ℕ) → length s ≤ length o → isAccepted (carrying caller t Q o .answer) ≡ true
     unfolding isAccepted
-    sent-carries o h = rw (carrying-answers caller t Q o carriedOf sent-read (may-carry Q (R .width) (length t) (length o) admitted width (rw size h)) .0)
+    sent-carries o h = rw (carrying-answers caller t Q o (carriedOf Q R) sent-read (may-carry Q (R .width) (length t) (length o) admitted width (rw size h)) .0)
 
     shot-room : memoryRow (surveyOf R) (shot Q m) ≡ 0
     unfolding correction
@@ -170,7 +154,7 @@ module _ (caller : Caller) (narrow : caller .widest ≤ widestKernel) (s out : L
           again = sent-carries;
           behind = rw (sent-runs .1) behind;
           same = λ finite b h.
-              let alike = frame-over-steps caller g (R .steps) (R .width) Q m u (run .width) (run .allowed) fitting width roomM roomU greatest (finite carriedOf sent-read)
+              let alike = frame-over-steps caller g (R .steps) (R .width) Q m u (run .width) (run .allowed) fitting width roomM roomU greatest (finite (carriedOf Q R) sent-read)
               (λ b h. agree .at b (rw width h)) b (rw last-width at h) in
               rw (sent-runs .1, fired-done Q m before, shot-runs .1, fired-done end (ran (R .width) (carriedSteps Q (R .steps)) u) behind)
               (same-says _ _ (alike .res), same-says _ _ (alike .ims));
@@ -180,14 +164,10 @@ module _ (caller : Caller) (narrow : caller .widest ≤ widestKernel) (s out : L
   accepted-half a =
       let one = running-done caller s m _ (accepted-value (running caller s m .answer) (a .here) .is) in
       let two = running-done caller s u _ (accepted-value (running caller s u .answer) (a .there) .is) in
-      let three = carrying-done caller s Q out _ (accepted-value (carrying caller s Q out .answer) (a .carries) .is) in
-      let R : Run = one .run in
-      let again : two .run ≡ R = accepted-same (sym (two .was) ∙ one .was) in
-      let third : three .run ≡ R = accepted-same (sym (three .was) ∙ one .was) in
-      let row = subst (λ (r : Run). carryingRow Q (r .width) (length s) (length out) ≡ 0) third (three .passed) in
-      let pauli = carrying-passed Q (R .width) (length s) (length out) row in
-      let carries = carrying-answers caller s Q out R (one .was) row in
-      assembled R (one .was) (one .passed) (subst (λ (r : Run). memoryRow (surveyOf r) u ≡ 0) again (two .passed)) (pauli .0) (pauli .1) (carries .0) (carries .1) (a .start)
+      let three = sent-accepted caller s Q out (a .carries) in
+      let same : (r : Run) → runOf caller s ≡ accepted r → r ≡ three .run = λ r was. accepted-same (sym was ∙ three .known .read) in
+      assembled (three .run) (three .known) (subst (λ (r : Run). memoryRow (surveyOf r) m ≡ 0) (same (one .run) (one .was)) (one .passed))
+      (subst (λ (r : Run). memoryRow (surveyOf r) u ≡ 0) (same (two .run) (two .was)) (two .passed)) (a .start)
 
 -- ---- the theorem
 

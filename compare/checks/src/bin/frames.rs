@@ -1,20 +1,22 @@
 //! frames [RUNS] [SEED] [heap]: demand 3 on random runs and on all single steps of few qubits, by the service's calls and,
-//! where the emulator takes the run, by its calls too; and that the two callers leave the same state and carry alike.
+//! where the emulator takes the run, by its calls too; that the two callers leave the same state and carry alike; and E11 with a
+//! second Pauli, by each caller that takes the run.
 //!
 //! Run i throws the dice of SEED + i. Ends with 1 if anything is wrong, or if something that the program is
 //! meant to see was never seen.
 
-use checks::callers::Who;
+use checks::callers::{BOTH, Who};
 use checks::case::{self, Arguments};
 use checks::lent::Lender;
 use checks::tally::{Findings, Tally};
 use checks::trials::{random_trial, single_step_trials};
 use checks::two_callers::{self, Agreement};
 use checks::two_ways::{Outcome, Trial, compare};
+use checks::{draw, merging};
 use model::carry::{carry_step, takes_product};
 use model::dice::Dice;
 use model::pauli::Pauli;
-use model::run::{Caller, EMULATOR, LIMIT, Run, Step};
+use model::run::{Caller, LIMIT, Run, Step};
 use std::process::ExitCode;
 
 const RUNS: u64 = 1_000_000;
@@ -65,11 +67,20 @@ struct Both {
     wrong: Findings,
 }
 
+/// Of two corrections that are merged, by each caller.
+#[derive(Default)]
+struct Merges {
+    service: Tally,
+    emulator: Tally,
+    wrong: Findings,
+}
+
 #[derive(Default)]
 struct All {
     service: Seen,
     emulator: Seen,
     both: Both,
+    merges: Merges,
 }
 
 /// Of runs whose amplitudes are finite throughout, or not so from the start or from some step on.
@@ -228,32 +239,77 @@ impl Both {
     }
 }
 
+impl Merges {
+    /// With dice of its own: the other checks draw what they would draw without it.
+    fn try_one(&mut self, lender: &Lender, dice: &Dice, seed: u64, trial: &Trial) {
+        let mut dice = Dice(!dice.0);
+        let a = draw::pauli(&mut dice, trial.run.width);
+        for who in BOTH.into_iter().filter(|who| takes(*who, trial)) {
+            match merging::compare(lender, &mut dice, who, trial, a) {
+                Ok(merged) => merging::count(self.tally(who), trial, a, &merged),
+                Err(what) => {
+                    let what = format!("{}: {what}; A: {a:?}, B is Q", who.name());
+                    note(&mut self.wrong, seed, &what, trial);
+                }
+            }
+        }
+    }
+
+    fn tally(&mut self, who: Who) -> &mut Tally {
+        match who {
+            Who::Service => &mut self.service,
+            Who::Emulator => &mut self.emulator,
+        }
+    }
+
+    fn print(&self) {
+        println!("two corrections B and A as one, by the service's calls and by the emulator's");
+        for name in merging::WANTED {
+            let [service, emulator] = [&self.service, &self.emulator].map(|seen| seen.count(name));
+            println!("  {name:46} {service:>9} {emulator:>9}");
+        }
+    }
+
+    fn missing(&self) -> Vec<&'static str> {
+        let unseen = [&self.service, &self.emulator].map(|seen| seen.missing(&merging::WANTED));
+        unseen.concat()
+    }
+}
+
+/// Whether a run, which the service takes, is narrow enough for the caller.
+fn takes(who: Who, trial: &Trial) -> bool {
+    trial.run.survey().greatest <= who.caller().widest
+}
+
 impl All {
-    /// By the service; by both; by the emulator where it takes the run.
+    /// By the service; by both; by the emulator where it takes the run; with a second Pauli.
     fn try_one(&mut self, lender: &Lender, dice: &mut Dice, seed: u64, trial: &Trial) {
         self.service
             .try_one(lender, dice, seed, Who::Service, trial);
         self.both.try_one(lender, dice, seed, trial);
-        if trial.run.survey().greatest <= EMULATOR.widest {
+        if takes(Who::Emulator, trial) {
             self.emulator
                 .try_one(lender, dice, seed, Who::Emulator, trial);
         }
+        self.merges.try_one(lender, dice, seed, trial);
     }
 
     fn print(&self) {
         self.service.print(Who::Service);
         self.emulator.print(Who::Emulator);
         self.both.print();
+        self.merges.print();
     }
 
     fn wrong(&self) -> u64 {
-        self.service.wrong.0 + self.emulator.wrong.0 + self.both.wrong.0
+        self.service.wrong.0 + self.emulator.wrong.0 + self.both.wrong.0 + self.merges.wrong.0
     }
 
     fn missing(&self) -> Vec<&'static str> {
         let service = self.service.missing(Who::Service);
         let emulator = self.emulator.missing(Who::Emulator);
-        [service, emulator, self.both.missing()].concat()
+        let rest = [self.both.missing(), self.merges.missing()].concat();
+        [service, emulator, rest].concat()
     }
 }
 

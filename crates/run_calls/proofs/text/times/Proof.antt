@@ -13,11 +13,20 @@ Inv-loop count digits out₀ at end₀ k₀ out end k = length out ≡ length ou
 abbrev μ-loop : tie.MeasureT-loop
 μ-loop count digits out₀ at end₀ k₀ out end k = count - k
 
+returns : tie.Need-returns Inv-loop μ-loop
+returns c = tt
+
 loop-holds : tie.Need-loop-holds Inv-loop μ-loop
 loop-holds c = search needs
 
 hex-requires : tie.Need-hex-requires Inv-loop μ-loop
 hex-requires c κs = tt
+
+same-length : tie.Need-same-length Inv-loop μ-loop
+same-length c = search needs
+
+returns-2 : tie.Need-returns-2 Inv-loop μ-loop
+returns-2 c = tt
 
 add-k : tie.Need-add-k Inv-loop μ-loop
 add-k c = omega arith
@@ -28,11 +37,11 @@ loop-less c = omega arith
 loop-again : tie.Need-loop-again Inv-loop μ-loop
 loop-again c = search needs
 
-same-length : tie.Need-same-length Inv-loop μ-loop
-same-length c = search needs
+same-length-2 : tie.Need-same-length-2 Inv-loop μ-loop
+same-length-2 c = search needs
 
-returns : tie.Need-returns Inv-loop μ-loop
-returns c = tt
+returns-3 : tie.Need-returns-3 Inv-loop μ-loop
+returns-3 c = tt
 
 pub times-spec : {M : Type 1} → statement M
 times-spec =
@@ -40,10 +49,13 @@ times-spec =
     (tie.spec
     Inv-loop
     μ-loop
+    returns
     loop-holds
     hex-requires
+    same-length
+    returns-2
     add-k
     loop-less
     loop-again
-    same-length
-    returns)
+    same-length-2
+    returns-3)

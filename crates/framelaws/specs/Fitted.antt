@@ -39,20 +39,21 @@ dropped-fitting p {P} h f =
       zs = below (P .z) (subst (λ (k : ℕ). P .z < 2 ^ k) wide (f .zs));
     }
 
-module _ (M : Pauli) (v : ℕ) (Q : Pauli) where
+-- Which of the two stands first in a product plays no part here and behind a quarter turn: the laws of a frame say it (Projecting, PastQuarterTurn).
+module _ (M : Pauli) (v : ℕ) (Q : Pauli) (e : M .n ≡ Q .n) where
   pub absorbed-width : (t : Bool) → absorbed t M v Q .n ≡ Q .n
   unfolding absorbed raised product
-  absorbed-width true = refl
+  absorbed-width true = omega (arith, e)
   absorbed-width false = refl
 
-  pub absorbed-fitting : (t : Bool) → M .n ≡ Q .n → Fitting M → Fitting Q → Fitting (absorbed t M v Q)
+  pub absorbed-fitting : (t : Bool) → Fitting M → Fitting Q → Fitting (absorbed t M v Q)
   unfolding absorbed
-  absorbed-fitting true e f g = raised-fitting _ (product-fitting e g f)
-  absorbed-fitting false e f g = g
+  absorbed-fitting true f g = search (raised-fitting, product-fitting, sym, e)
+  absorbed-fitting false f g = g
 
   -- and without the pivot's qubit
-  pub remaining-fitting : (t : Bool) (p : ℕ) → p < Q .n → M .n ≡ Q .n → Fitting M → Fitting Q → Fitting (dropped p (absorbed t M v Q))
-  remaining-fitting t p h e f g = dropped-fitting p (omega (arith, absorbed-width t)) (absorbed-fitting t e f g)
+  pub remaining-fitting : (t : Bool) (p : ℕ) → p < Q .n → Fitting M → Fitting Q → Fitting (dropped p (absorbed t M v Q))
+  remaining-fitting t p h f g = dropped-fitting p (omega (arith, absorbed-width t)) (absorbed-fitting t f g)
 
 -- behind a quarter turn
 module _ (P Q : Pauli) (e : P .n ≡ Q .n) where
@@ -84,8 +85,8 @@ fitting-passed caller n Q (promotion c q) within h e f width =
 fitting-passed caller n Q (projection M p v invnorm) within h e f width =
     let measurable = projection-measurable M p v invnorm e in
     record {
-      fitting = remaining-fitting M _ Q _ p (omega (arith, measurable .inside)) (h ∙ sym width) (measurable .fitting) f;
-      width = ap (λ (k : ℕ). k - 1) (absorbed-width M _ Q _ ∙ width);
+      fitting = remaining-fitting M _ Q (h ∙ sym width) _ p (omega (arith, measurable .inside)) (measurable .fitting) f;
+      width = ap (λ (k : ℕ). k - 1) (absorbed-width M _ Q (h ∙ sym width) _ ∙ width);
       within = omega arith;
     }
 fitting-passed caller n Q (correction P) within h e f width = record {

@@ -37,7 +37,7 @@ module _ (M : Pauli) (v w : ℕ) (B A : Pauli) (real : hermitian M ≡ true) (br
   a = 2 * anti A M
 
   absorbed-product : (t u : Bool) → product (absorbed t M v B) (absorbed u M w A) ≡ absorbed (unlike t u) M w (product B A)
-  unfolding absorbed unlike
+  unfolding absorbed
   absorbed-product false false = refl
   absorbed-product false true = raised-right (2 * w) B (product A M) ∙ ap (raised (2 * w)) (sym (product-assoc B A M))
   absorbed-product true false =

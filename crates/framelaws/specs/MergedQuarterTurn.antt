@@ -24,7 +24,7 @@ module _ (P B A : Pauli) (real : hermitian P ≡ true) (width : P .n ≡ B .n) w
       ∙ raised-left (2 * a) (product P B) A ∙ ap (raised (2 * a)) (product-assoc P B A)
 
   turned-product : (t u : Bool) → eqb (anti B P) 1 ≡ t → product (turnedBy t P B) (turnedBy u P A) ≡ turnedBy (unlike t u) P (product B A)
-  unfolding turnedBy unlike
+  unfolding turnedBy
   turned-product false false e = refl
   turned-product false true e =
       raised-right 3 B (product P A) ∙ ap (raised 3) (moved 0 (not-one (anti B P) (anti-lt B P) e) ∙ raised-whole 0 P (product B A) refl)

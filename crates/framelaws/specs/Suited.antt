@@ -91,7 +91,7 @@ module _ (Q : Pauli) where
     unfolding passed widthAfter widened dropped raised turnedPast
     suited-width (rotation P sign c s) h = refl
     suited-width (promotion c q) h = refl
-    suited-width (projection M p v invnorm) h = ap (λ (n : ℕ). n - 1) (absorbed-width M (flipped Q M v) Q (meets M p Q))
+    suited-width (projection M p v invnorm) h = ap (λ (n : ℕ). n - 1) (absorbed-width M (flipped Q M v) Q (sym (h .0 .width)) (meets M p Q))
     suited-width (correction P) h = refl
     suited-width (quarterTurn P) h = turned-width P Q (sym (h .width)) (eqb (anti Q P) 1)
 
@@ -109,9 +109,10 @@ module _ (Q : Pauli) where
             let pair = h .0 in
             let v' = flipped Q M v in
             let met = meets M p Q in
+            let same = sym (pair .width) in
             record {
-              fitting = remaining-fitting M v' Q met p (h .1) (sym (pair .width)) (pair .second) (pair .first .fitting);
-              width = omega (arith, absorbed-width M v' Q met, pair .first .width);
+              fitting = remaining-fitting M v' Q same met p (h .1) (pair .second) (pair .first .fitting);
+              width = omega (arith, absorbed-width M v' Q same met, pair .first .width);
             }
         go (correction P) h = record { fitting = raised-fitting _ (h .first .fitting); width = h .first .width }
         go (quarterTurn P) h =

@@ -37,6 +37,7 @@ returns c =
     let M = activeOf (start .args .measured) in
     let p = start .args .pivot in
     let pair = start .pre .0 in
+    let same = sym (pair .width) in
     let t = meets M p Q in
     let v = flipped Q M (bitOf (start .args .branch)) in
     let whole = activeOf (c .before .before .absorbed .result) in
@@ -48,10 +49,10 @@ returns c =
     let admitted : Admitted whole
     = subst Admitted (sym is)
     (record {
-      fitting = absorbed-fitting M v Q t (sym (pair .width)) (pair .second) (pair .first .fitting);
-      width = rw (absorbed-width M v Q t) (pair .first .width);
+      fitting = absorbed-fitting M v Q same t (pair .second) (pair .first .fitting);
+      width = rw (absorbed-width M v Q same t) (pair .first .width);
     }) in
-    let inside : p < whole .n = subst (λ (n : ℕ). p < n) (sym (ap (λ (P : Pauli). P .n) is ∙ absorbed-width M v Q t)) (start .pre .1) in
+    let inside : p < whole .n = subst (λ (n : ℕ). p < n) (sym (ap (λ (P : Pauli). P .n) is ∙ absorbed-width M v Q same t)) (start .pre .1) in
     let told = c .before .dropped .ensures ∙ dropped-accepted whole admitted p inside in
     c .pauli-or .ensures ∙ ap (valueOr whole) told ∙ ap (dropped p) is
 

@@ -85,7 +85,7 @@ fitting-passed caller n Q (promotion c q) within h e f width =
 fitting-passed caller n Q (projection M p v invnorm) within h e f width =
     let measurable = projection-measurable M p v invnorm e in
     record {
-      fitting = remaining-fitting M _ Q (h ∙ sym width) _ p (omega (arith, measurable .inside)) (measurable .fitting) f;
+      fitting = remaining-fitting M _ Q (h ∙ sym width) _ _ (omega (arith, measurable .inside)) (measurable .fitting) f;
       width = ap (λ (k : ℕ). k - 1) (absorbed-width M _ Q (h ∙ sym width) _ ∙ width);
       within = omega arith;
     }

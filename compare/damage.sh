@@ -1,5 +1,5 @@
 #!/usr/bin/env bash
-# Runs the check that damaged input is refused as the table says, and nothing lent is written.
+# Runs the check that damaged input is refused as the table says, nothing lent is written, and what is not refused is answered right.
 #
 #   damage.sh [ARGUMENTS of the program damage]
 #   damage.sh --valgrind [CASES]    fewer cases, each lent buffer a block of its own, under valgrind

@@ -8,12 +8,13 @@
     runs.py bench < run > text           what the program `bench` prints of a run
     runs.py listings PROGRAM SEED COUNT  COUNT random runs given to PROGRAM (target/bin/bench) as well, and compared so
 
-Written from the scope's text (document 01) and, for quarter turns, the emulator and
-merged corrections, from requests E13, E8 and E11 (document 02), which the comments quote,
-without the Rattle's definitions of runs; its writer had seen the Rattle code of reader and
-checker before, the writers of the emulator's part and of merged corrections were told to
-open none. It shares no code with the Rattle or the Rust. The kernels' steps are those of
-model.py; a quarter turn is its rotation.
+Written from the scope's text (document 01) and, for quarter turns, the emulator,
+merged corrections and the search for a start, from requests E13, E8, E11 and E12
+(document 02), which the comments quote, without the Rattle's definitions of runs; its
+writer had seen the Rattle code of reader and checker before, the writers of the emulator's
+part and of merged corrections were told to open none, the writer of the search for a start
+was told not to open the Rattle code of the seeker. It shares no code with the Rattle or the
+Rust. The kernels' steps are those of model.py; a quarter turn is its rotation.
 
 A call is its name, a run, numbers (masks after 0x), then the lent buffers as in
 model.py, a bar before each. A run is hexadecimal digits in pieces with commas
@@ -40,6 +41,10 @@ between; `3*` before a piece stands for three of it.
                                     shown against the run; then `same` where the last two outputs are equal and B's end Pauli
                                     times A's is that of B·A, else `differ`. A refusal ends the line. A run over
                                     66,000 bytes, or numbers that are not eight, is `unread`
+    seeker RUN width k x z          E12, the Pauli being the named end: the width of a start that was found, the end
+                                    Pauli that carry answers for it with an output of 66,000 bytes, then `same` where
+                                    that is the named one, else `differ`. Any start that serves is right, so none is
+                                    shown. `unread` as for merge, of four numbers
 
     emulated-step RUN at width
     emulated-check RUN
@@ -47,24 +52,26 @@ between; `3*` before a piece stands for three of it.
     emulated-carry RUN width k x z length
     emulated-both RUN width k x z | re | im
     emulated-merge RUN width k x z width k x z
-                                    step, check, run, carry, both and merge for the emulator; the calls above are the
-                                    service's
+    emulated-seeker RUN width k x z
+                                    step, check, run, carry, both, merge and seeker for the emulator; the calls above
+                                    are the service's
 
 `refused` and the number, `at` and the offset where it has one, is a refusal.
 """
 
+import itertools
 import random
 import struct
 import subprocess
 import sys
-from collections import namedtuple
+from collections import Counter, namedtuple
 
 import model
 from model import Pauli, Refused, number, parity, refuse, shown
 
 LONGEST = 65536
 FILLED = 0xEE
-HELD = 66000  # Bytes of each output of `merge`, and of the longest run that it reads.
+HELD = 66000  # Bytes of each output of `merge` and `seeker`, and of the longest run that they read.
 ROOM = 160  # Floats that a lent buffer may have.
 
 
@@ -311,6 +318,64 @@ def carry(run, caller, pauli, room):
     return bytes(out), pauli
 
 
+# --------------------------------------------------------- a start for an end
+
+
+def end_of(pauli, steps):
+    """The Pauli behind the steps."""
+    for _, step in steps:
+        _, pauli = passed(pauli, step)
+    return pauli
+
+
+def tried(width, steps, end):
+    """The first of all Paulis on that many qubits that ends in the named one; None if none does."""
+    for k, x, z in itertools.product(range(4), range(2**width), range(2**width)):
+        pauli = Pauli(width, k, x, z)
+        if end_of(pauli, steps).shown() == end.shown():
+            return pauli
+    return None
+
+
+def joined(pauli):
+    """Both masks in one number."""
+    return pauli.x << pauli.n | pauli.z
+
+
+def sums(units):
+    """The xor of each choice of them; bit q of the index chooses unit q."""
+    made = [0]
+    for unit in units:
+        made += [one ^ unit for one in made]
+    return made
+
+
+def matched(width, steps, end):
+    """As `tried`, for widths whose Paulis are too many. By E11 the masks at the end of a product are the xor of those
+    of its factors, signs and branches being seen in phases alone: each of the 2^width choices of X letters is looked
+    up among those of Z letters, and no equation is solved. The phase rises at the end as it does at the start."""
+    letters_x, letters_z = ([Pauli(width, 0, x << q, z << q) for q in range(width)] for x, z in ((1, 0), (0, 1)))
+    ends_of_x, ends_of_z = (sums([joined(end_of(one, steps)) for one in letters]) for letters in (letters_x, letters_z))
+    choice_of_z = {one: z for z, one in enumerate(ends_of_z)}
+    for x, one in enumerate(ends_of_x):
+        z = choice_of_z.get(one ^ joined(end))
+        if z is not None:
+            pauli = Pauli(width, 0, x, z)
+            return raised(pauli, end.k - end_of(pauli, steps).k)
+    return None
+
+
+def seek(run, caller, end):
+    """Some Pauli on the start qubits whose carrying ends in exactly the named one, phase included. 25, no such
+    Pauli, stands last of all."""
+    width, steps = walk(run, caller)
+    refuse(3, not end.fits())
+    refuse(4, end.n != survey(run, caller)[0])
+    pauli = (tried if width <= 3 else matched)(width, steps, end)
+    refuse(25, pauli is None)
+    return pauli
+
+
 # ------------------------------------------------------------------- demand 3
 
 
@@ -467,6 +532,18 @@ def told_merge(run, caller, words):
     return " | ".join([*told, verdict])
 
 
+def told_seek(run, caller, words):
+    """The start that is found is judged by carrying it."""
+    if len(run) > HELD or len(words) != 4:
+        return "unread"
+    named = Pauli(*words)
+    pauli = seek(run, caller, named)
+    _, end = carry(run, caller, pauli, HELD)
+    verdict = "same" if end.shown() == named.shown() else "differ"
+    assert verdict == "same", "E12"
+    return f"start {pauli.n} | carried {end.shown()} | {verdict}"
+
+
 def answer(line):
     if line.startswith("#"):
         return line
@@ -494,6 +571,8 @@ def answer(line):
             return told_both(run, caller, Pauli(*words), *buffers)
         if name == "merge":
             return told_merge(run, caller, words)
+        if name == "seeker":
+            return told_seek(run, caller, words)
         if name == "passing":
             return told_past(run[0], words, *buffers)
         assert name == "run"
@@ -587,6 +666,12 @@ def both_line(text, width, p, re, im):
 def merge_line(text, b, a):
     """Paulis with their widths."""
     return f"merge {text} " + " ".join(f"{n} {k} {x:#x} {z:#x}" for n, k, x, z in (b, a))
+
+
+def seek_line(text, end):
+    """The named end with its width."""
+    n, k, x, z = end
+    return f"seeker {text} {n} {k} {x:#x} {z:#x}"
 
 
 def length(text):
@@ -1901,11 +1986,344 @@ def merging_unread(lines):
     lines.ask(merge_line(spelled(starting(1), (most, b""), END), (1, *X), (1, *Z)), told)
 
 
+NO_START = "refused 25"
+
+
+def seeking(lines):
+    """Which start gives this end: whether there is one, by hand."""
+    seeking_nothing(lines)
+    seeking_kinds(lines)
+    seeking_all(lines)
+    seeking_promotions(lines)
+    seeking_projections(lines)
+    seeking_none(lines)
+    seeking_wide(lines)
+    seeking_longest(lines)
+    seeking_refused(lines)
+    seeking_order(lines)
+    seeking_emulated(lines)
+    seeking_unread(lines)
+
+
+def started(width, end):
+    """A start of that width is found, and it ends in the named Pauli."""
+    n, k, x, z = end
+    return f"start {width} | carried {n} {k} {x:#x} {z:#x} | same"
+
+
+def phases(x, z):
+    return [(k, x, z) for k in range(4)]
+
+
+def every_pauli(n):
+    """All Paulis on n qubits, of each phase."""
+    return [(k, x, z) for x in range(2**n) for z in range(2**n) for k in range(4)]
+
+
+def each_letter(n):
+    """All letters on n qubits, the phases in turn."""
+    return [((x + z + x // 2) % 4, x, z) for x in range(2**n) for z in range(2**n)]
+
+
+def seek_ends(lines, run, n, ends, reached=lambda x, z: True):
+    """Ends on the n last qubits; those whose masks are reached have a start, whatever their phase."""
+    for k, x, z in ends:
+        end = (n, k, x, z)
+        told = started(run[0][3], end) if reached(x, z) else NO_START
+        lines.ask(seek_line(spelled(*run), end), told)
+
+
+def seeking_nothing(lines):
+    lines.say("Which start gives this end: in an empty run each Pauli is its own. On no qubit, one, twelve.")
+    for n in (0, 1):
+        seek_ends(lines, [starting(n), END], n, every_pauli(n))
+    full = 4095
+    wide = [*phases(full, full), (0, full, 0), (2, 0, full), (1, 0x555, 0xAAA), (3, 0xAAA, 0x555), I]
+    seek_ends(lines, [starting(12), END], 12, wide)
+    lines.say("One letter on each of twelve qubits, and all letters but that one.")
+    for q in range(12):
+        bit = 1 << q
+        ends = [(0, bit, 0), (0, 0, bit), (1, full ^ bit, full), (3, full, full ^ bit)]
+        seek_ends(lines, [starting(12), END], 12, ends)
+
+
+def seeking_kinds(lines):
+    lines.say("All ends on one qubit behind one step: rotations, corrections, quarter turns, of which each has a start.")
+    one = [rotating(Z), rotating(Y, 1), correcting(X), correcting(Z), correcting((0, 1, 1))]
+    one += [turning(p) for p in (I, X, Y, Z, (2, 0, 1))]
+    for step in one:
+        seek_ends(lines, [starting(1), step, END], 1, every_pauli(1))
+    lines.say("Behind a projection of X, -X, Y, Z, either branch: each phase has starts.")
+    for p in (X, (2, 1, 0), Y, Z):
+        for branch in (0, 1):
+            seek_ends(lines, [starting(1), projecting(p, 0, branch), END], 0, phases(0, 0))
+    lines.say("Behind a promotion: all ends on two qubits, of which those with I on the new one have a start.")
+    seek_ends(lines, [starting(1), promoting(), END], 2, every_pauli(2), lambda x, z: x < 2 and z < 2)
+
+
+def seeking_all(lines):
+    lines.say("All ends on two qubits behind a correction, which turns signs; behind two quarter turns; three: found.")
+    two = [turning((0, 0, 3)), turning((0, 1, 0))]
+    for steps in ([correcting((3, 2, 1))], two, [*two, turning((1, 2, 2))]):
+        seek_ends(lines, [starting(2), *steps, END], 2, every_pauli(2))
+    lines.say("Letters of two and of three qubits behind these and a rotation.")
+    steps = [turning((2, 3, 3)), correcting((0, 0, 2)), rotating((0, 3, 0)), turning((0, 1, 2))]
+    for n in (2, 3):
+        seek_ends(lines, [starting(n), *steps, turning((0, 0, 2**n - 1)), END], n, each_letter(n)[: 8 * n])
+
+
+def seeking_promotions(lines):
+    lines.say("A promotion, then a quarter turn of XX: Z becomes -YX, Y becomes ZX, X stays. These and I are reached, and no other of all ends.")
+    joining = [starting(1), promoting(), turning((0, 3, 0)), END]
+    moved = {(0, 0), (1, 0), (3, 1), (2, 1)}
+    seek_ends(lines, joining, 2, every_pauli(2), lambda x, z: (x, z) in moved)
+    lines.say("Then one of ZI: -YX becomes XX, X becomes Y; the letters on the new qubit alone are not reached.")
+    again = [*joining[:-1], turning(Z), END]
+    moved_again = {(0, 0), (1, 1), (3, 0), (2, 1)}
+    seek_ends(lines, again, 2, each_letter(2), lambda x, z: (x, z) in moved_again)
+    lines.say("Quarter turns of XX and of ZZ, and Z of the first qubit measured: X leaves Z on the new one, Z leaves X. Each end is reached.")
+    exchanged = [starting(1), promoting(), turning((0, 3, 0)), turning((0, 0, 3)), projecting(Z), END]
+    seek_ends(lines, exchanged, 1, every_pauli(1))
+    lines.say("Two promotions from one qubit; from two qubits one that is joined to the second alone.")
+    ends = [(0, 1, 1), (2, 1, 0), (3, 0, 1), (0, 2, 0), (0, 0, 2), (1, 4, 0), (0, 0, 4), (0, 7, 7), (1, 1, 5), (2, 3, 1)]
+    seek_ends(lines, [starting(1), (2, promoting()), END], 3, ends, lambda x, z: x < 2 and z < 2)
+    ends = [(0, 1, 1), (0, 4, 0), (0, 6, 2), (1, 6, 0), (2, 2, 0), (3, 7, 3), (0, 0, 2), (0, 5, 0), (1, 5, 1), (0, 0, 4), (2, 3, 0)]
+    joined_to = lambda x, z: z < 4 and z >> 1 == x >> 2
+    seek_ends(lines, [starting(2), promoting(), turning((0, 6, 0)), END], 3, ends, joined_to)
+    lines.say("A promotion, a correction on the new qubit: it turns no sign that is reached. A rotation of both: the same.")
+    for step in (correcting((1, 2, 2)), rotating((0, 3, 0))):
+        run = [starting(1), promoting(), step, END]
+        seek_ends(lines, run, 2, [*phases(1, 1), *phases(1, 0), (0, 2, 0), (0, 0, 2), (1, 3, 3)], lambda x, z: x < 2 and z < 2)
+
+
+def seeking_projections(lines):
+    lines.say("Projections of XX and of ZZ, either pivot and branch: each end on the qubit that is left has several starts.")
+    for p in ((0, 3, 0), (0, 0, 3)):
+        for pivot in (0, 1):
+            for branch in (0, 1):
+                seek_ends(lines, [starting(2), projecting(p, pivot, branch), END], 1, [*each_letter(1), *phases(1, 1)])
+    lines.say("Of -YZ with its pivot on the Y; a quarter turn and a correction behind it; a projection of what is left.")
+    some = [starting(2), projecting((3, 1, 3), 0, 1)]
+    for behind in ([], [turning(Y), correcting(Z)]):
+        seek_ends(lines, [*some, *behind, END], 1, every_pauli(1))
+    seek_ends(lines, [*some, turning(Y), projecting(Z, 0, 1), END], 0, phases(0, 0))
+    lines.say("A projection and a promotion: what was left has a start, with any letter on the new qubit none.")
+    seek_ends(lines, [starting(2), projecting((0, 3, 0)), promoting(), END], 2, each_letter(2), lambda x, z: x < 2 and z < 2)
+    lines.say("A promotion and a projection: of the first qubit's X and of its Z, nothing is reached but phases; of XX, ZZ, of the new one's X.")
+    for p, pivot, reached in (
+        (X, 0, {(0, 0)}),
+        (Z, 0, {(0, 0)}),
+        ((0, 3, 0), 0, {(0, 0), (1, 0)}),
+        ((0, 0, 3), 0, {(0, 0), (0, 1)}),
+        ((0, 2, 0), 1, {(x, z) for x in (0, 1) for z in (0, 1)}),
+    ):
+        run = [starting(1), promoting(), projecting(p, pivot, 1), END]
+        seek_ends(lines, run, 1, [*phases(0, 0), *each_letter(1)[1:]], lambda x, z: (x, z) in reached)
+    lines.say("Down to no qubit, and up to twelve: i^k on twelve qubits, and no letter.")
+    run = [starting(1), projecting(Z, 0, 1), (12, promoting()), END]
+    letters = [(0, 1, 0), (0, 0, 1), (1, 0x800, 0x800), (2, 0, 0x800), (0, 4095, 4095)]
+    seek_ends(lines, run, 12, [*phases(0, 0), *letters], lambda x, z: x == z == 0)
+
+
+def seeking_none(lines):
+    lines.say("From no qubit: its i^k and no letter, behind promotions; behind quarter turns and rotations of them too.")
+    for steps in (
+        [promoting()],
+        [promoting(), turning(Y), correcting((1, 1, 0))],
+        [turning((2, 0, 0)), promoting(), rotating(Z), projecting(X, 0, 1), correcting((3, 0, 0)), promoting()],
+    ):
+        seek_ends(lines, [starting(0), *steps, END], 1, [*phases(0, 0), *each_letter(1)[1:]], lambda x, z: x == z == 0)
+    ends = [*phases(0, 0), (0, 1, 0), (0, 0, 1), (0, 0x800, 0), (0, 0, 0x800), (3, 4095, 4095)]
+    seek_ends(lines, [starting(0), (12, promoting()), END], 12, ends, lambda x, z: x == z == 0)
+    lines.say("From no qubit to none: by a quarter turn, a correction, by a promotion and a projection of either kind.")
+    for steps in ([turning(I)], [correcting((1, 0, 0))], [promoting(), projecting(X, 0, 1)], [promoting(), projecting(Z)]):
+        seek_ends(lines, [starting(0), *steps, END], 0, phases(0, 0))
+    lines.say("To no qubit from two and from twelve.")
+    seek_ends(lines, [starting(2), projecting((0, 3, 0)), projecting(Z, 0, 1), END], 0, phases(0, 0))
+    for p in (X, Z, Y):
+        seek_ends(lines, [starting(12), (12, projecting(p, 0, 1)), END], 0, phases(0, 0))
+
+
+def seeking_wide(lines):
+    full, top = 4095, 1 << 11
+    lines.say("Twelve qubits: the top one is measured and a new one made. With a letter there no start, else one.")
+    run = [starting(12), projecting((0, top, 1), 11, 1), promoting(), END]
+    ends = [*phases(0x7FF, 0x7FF), (0, 0x7FF, 0), (0, 0, 0x7FF), (0, 1, 0), (0, 0, 1), I]
+    ends += [(0, top, 0), (0, 0, top), (1, top, top), (0, full, full), (2, 0x7FF, full), (2, full, 0x7FF)]
+    seek_ends(lines, run, 12, ends, lambda x, z: x < top and z < top)
+    lines.say("The lowest is measured, and all others move down.")
+    run = [starting(12), projecting(Z), promoting(), END]
+    seek_ends(lines, run, 12, ends, lambda x, z: x < top and z < top)
+    lines.say("Eleven qubits and a new one that is joined to each of them by a quarter turn: X there goes with each Z.")
+    run = [starting(11), promoting(), *(turning((0, top | 1 << q, 0)) for q in range(11)), END]
+    # Z on qubit q becomes a Y there and an X on the new qubit; X stays.
+    reached = lambda x, z: z < top and parity(z) == x >> 11
+    ends = [I, (0, top, 1), (2, top, 1), (0, 1, 1), (0, top | 0x400, 0x400), (0, 0x400, 0x400), (1, 0x7FF, 0), (3, top, 0), (0, 0, top)]
+    ends += [(1, full, 0x7FF), (1, 0x7FF, 0x7FF), (2, top | 0x2AA, 0x7FE), (2, 0x2AA, 0x7FE)]
+    seek_ends(lines, run, 12, ends, reached)
+    lines.say("Quarter turns of ZZ of neighbours and of X of each, over twelve qubits and five times: each end has a start.")
+    ladder = [turning((0, 0, 3 << q)) for q in range(11)] + [turning((0, 1 << q, 0)) for q in range(12)]
+    run = [starting(12), (5, b"".join(ladder)), END]
+    ends = [*phases(full, full), (0, full, 0), (1, 0x555, 0xAAA), (3, 0x924, 0x249), (0, top, 0), Z]
+    seek_ends(lines, run, 12, ends)
+
+
+def seeking_longest(lines):
+    full, top = 4095, 1 << 11
+    lines.say("65,536 bytes: rotations by X and corrections X; rotations and quarter turns of Z, whole rounds and one more.")
+    for step in (correcting(), turning(Z)):
+        run = [starting(1), (17, rotating()), (3245, step), END]
+        assert length(spelled(*run)) == LONGEST
+        seek_ends(lines, run, 1, [*phases(1, 1), (0, 1, 0), (2, 0, 1), (3, 0, 0)])
+    lines.say("The same on twelve qubits, of Z on all.")
+    run = [starting(12), (17, rotating((0, full, 0))), (3245, turning((0, 0, full))), END]
+    assert length(spelled(*run)) == LONGEST
+    seek_ends(lines, run, 12, [*phases(full, full), (0, 1, 0), (1, 0, top)])
+    lines.say("65,536 bytes from eleven qubits: a promotion, rotations, and 3,257 quarter turns of X on the lowest and the new one.")
+    run = [starting(11), promoting(), (10, rotating((0, full, 0))), (3257, turning((0, top | 1, 0))), END]
+    assert length(spelled(*run)) == LONGEST
+    ends = [*phases(top | 1, 1), *phases(0x7FE, 0x7FE), (0, top, 0), (0, 1, 1), (0, 0, top), (1, full, 0x7FF), (1, full, full)]
+    seek_ends(lines, run, 12, ends, lambda x, z: z < top and z & 1 == x >> 11)
+    lines.say("65,536 bytes on twelve qubits: 1,321 times the top one is measured and made again, and forty corrections.")
+    run = [starting(12), (1321, projecting((0, top, 0), 11) + promoting()), (40, correcting((0, full, 0))), END]
+    assert length(spelled(*run)) == LONGEST
+    ends = [*phases(0x7FF, 0x7FF), (0, 0x400, 0), (0, top, 0), (0, 0, top), (0, full, full)]
+    seek_ends(lines, run, 12, ends, lambda x, z: x < top and z < top)
+    lines.say("One byte more, and 66,000 bytes: 14 at 0.")
+    over = spelled(starting(1), (10, rotating()), (3258, correcting()), END)
+    filled = spelled(starting(1), END, (HELD - 7, bytes(1)))
+    assert length(over) == LONGEST + 1 and length(filled) == HELD
+    for text in (over, filled):
+        for end in ((1, *X), (300, 9, 9, 9)):
+            lines.ask(seek_line(text, end), "refused 14 at 0")
+
+
+def seeking_refused(lines):
+    lines.say("A refused run: its row and its place, before 3 and 4 of the end and before 25.")
+    two = starting(2)
+    for run, told in (
+        ([], "14 at 0"),
+        ([correcting(), END], "14 at 0"),
+        ([starting(13), END], "14 at 0"),
+        ([two], "14 at 4"),
+        ([two, promoting()[:-1]], "14 at 4"),
+        ([two, correcting((4, 0, 0)), END], "3 at 4"),
+        ([two, turning((0, 4, 0)), END], "3 at 4"),
+        ([two, turning((1, 1, 0)), END], "7 at 4"),
+        ([two, correcting(), rotating((1, 1, 0)), END], "7 at 24"),
+        ([two, promoting(NAN), END], "8 at 4"),
+        ([starting(0), projecting(I), END], "9 at 4"),
+        ([two, projecting(X, 2), END], "10 at 4"),
+        ([two, projecting(I), END], "11 at 4"),
+        ([two, promoting(), projecting(X, 2), END], "12 at 23"),
+        ([two, rotating(X, 2), END], "14 at 4"),
+        ([two, correcting(), framed(9, b""), END], "14 at 24"),
+        ([two, promoting(), END, END], "14 at 26"),
+        ([starting(12), promoting(), END], "15 at 4"),
+        ([starting(11), promoting(), promoting(), END], "15 at 23"),
+    ):
+        for end in ((2, *I), (3, 0, 4, 0), (2, 4, 0, 0), (257, 9, 9, 9)):
+            lines.ask(seek_line(spelled(*run), end), f"refused {told}")
+
+
+def seeking_order(lines):
+    """A run from two qubits to three, whose ends with a letter on the new one have no start."""
+    text = spelled(starting(2), promoting(), END)
+    lines.say("3 for an end that is no Pauli: its phase, its width, a mask bit at its width; before 4 and 25.")
+    most = 2**64 - 1
+    for end in (
+        (3, 4, 0, 0), (3, 255, 0, 0), (3, 4, 4, 0), (3, 0, 8, 0), (3, 0, 0, 8), (3, 0, 1 << 63, 0), (3, 0, 0, 1 << 63), (3, 0, most, most),
+        (2, 4, 0, 0), (2, 0, 4, 0), (2, 0, 0, 4), (0, 0, 1, 0), (0, 0, 0, 1), (0, 4, 0, 0), (4, 255, 4, 0), (4, 0, 16, 0), (12, 0, 4096, 0),
+        (13, 0, 0x2000, 0), (13, 0, 0, 0x2000), (63, 0, 1 << 63, 0), (63, 0, 0, 1 << 63), (256, 4, 0, 0),
+        (257, *I), (257, 4, 0, 0), (300, 0, 4, 0), (1 << 32, *I), (1 << 63, *I), (most, *I), (most, 255, most, most),
+    ):
+        lines.ask(seek_line(text, end), "refused 3")
+    lines.say("4 for one on other qubits, the start's too; before 25.")
+    for n in (0, 1, 2, 4, 12, 13, 63, 64, 65, 255, 256):
+        lines.ask(seek_line(text, (n, *I)), "refused 4")
+    for end in ((2, 0, 3, 3), (4, 0, 12, 0), (13, 3, 0x1000, 0x1000), (64, 3, most, most), (256, 0, most, 0)):
+        lines.ask(seek_line(text, end), "refused 4")
+    lines.say("25 last; and found.")
+    seek_ends(lines, [starting(2), promoting(), END], 3, [(3, 7, 7), (0, 4, 0), (0, 0, 4), (3, 3, 3), I], lambda x, z: x < 4 and z < 4)
+    lines.say("A run that ends with fewer qubits: on those of the start it is 4, on one more or fewer than are left too.")
+    text = spelled(starting(3), projecting((0, 7, 0), 2), END)
+    for n in (0, 1, 3, 4, 256):
+        lines.ask(seek_line(text, (n, *I)), "refused 4")
+    for end in ((2, 0, 4, 0), (3, 0, 8, 0), (2, 4, 0, 0)):
+        lines.ask(seek_line(text, end), "refused 3")
+    lines.ask(seek_line(text, (2, 1, 3, 3)), started(3, (2, 1, 3, 3)))
+    lines.say("To no qubit and from none: 3 and 4 there.")
+    for run in ([starting(1), projecting(), END], [starting(0), END]):
+        for end, row in (((0, 4, 0, 0), 3), ((0, 0, 1, 0), 3), ((0, 0, 0, 1), 3), ((1, *I), 4), ((1, *X), 4), ((257, *I), 3)):
+            lines.ask(seek_line(spelled(*run), end), f"refused {row}")
+
+
+def seeking_emulated(lines):
+    """As the service where the board has room, and 21 where not."""
+    lines.say("Sought by the service and by the emulator, the same: from no qubit, by every kind of step, up to six and on six.")
+    rung = [turning((0, 0, 3 << q)) for q in range(5)] + [turning((0, 1 << q, 0)) for q in range(6)]
+    joined_to = [promoting(), turning((0, 33, 0))]
+    six = [(0, 63, 63), (1, 32, 32), (2, 0, 1), (3, 33, 1), (0, 1, 0), (0, 0, 32), (0, 31, 31)]
+    for run, n, ends in (
+        ([starting(0), END], 0, phases(0, 0)),
+        ([starting(0), (6, promoting()), END], 6, [*phases(0, 0), (0, 32, 0), (0, 0, 32), (0, 1, 0)]),
+        (EVERY_KIND, 1, each_letter(1)),
+        (TURNS, 0, phases(0, 0)),
+        ([starting(5), *joined_to, END], 6, six),
+        ([starting(6), *rung, END], 6, six),
+        ([starting(6), projecting((0, 33, 0), 5, 1), promoting(), END], 6, six),
+        ([starting(6), (6, projecting()), END], 0, phases(0, 0)),
+    ):
+        for end in ends:
+            line = seek_line(spelled(*run), (n, *end))
+            lines.ask(line)
+            lines.ask(on_emulator(line), answer(line))
+    lines.say("21 for a start over six and a promotion at six, before 3, 4 and 25; the service takes them.")
+    wide, grown, most = spelled(starting(7), END), spelled(starting(6), promoting(), END), spelled(starting(12), END)
+    lines.ask(seek_line(wide, (7, 1, 127, 127)), started(7, (7, 1, 127, 127)))
+    lines.ask(seek_line(grown, (7, 1, 63, 63)), started(6, (7, 1, 63, 63)))
+    lines.ask(seek_line(grown, (7, 0, 64, 0)), NO_START)
+    for text, n, at in ((wide, 7, 0), (grown, 7, 4), (most, 12, 0)):
+        for end in ((n, 1, 63, 63), (n, 0, 64, 0), (6, *I), (n, 4, 0, 0), (257, *I)):
+            lines.ask(on_emulator(seek_line(text, end)), f"refused 21 at {at}")
+    again = spelled(starting(5), (2, promoting()), END)
+    lines.ask(on_emulator(seek_line(again, (7, *I))), "refused 21 at 23")
+    lines.say("Its own 14, 8 and 3 at their places; then 3, 4 and 25 of the end.")
+    for run, told in (
+        ([], "14 at 0"),
+        ([starting(7)[:3]], "14 at 0"),
+        ([starting(6)], "14 at 4"),
+        ([starting(6), promoting(NAN), END], "8 at 4"),
+        ([starting(6), correcting((0, 64, 0)), END], "3 at 4"),
+        ([starting(6), projecting(X, 6), END], "10 at 4"),
+        ([starting(1), (10, rotating()), (3258, correcting()), END], "14 at 0"),
+    ):
+        lines.ask(on_emulator(seek_line(spelled(*run), (6, *I))), f"refused {told}")
+    text = spelled(starting(5), promoting(), END)
+    for end, row in (((6, 4, 0, 0), 3), ((6, 0, 64, 0), 3), ((257, *I), 3), ((5, *I), 4), ((7, *I), 4), ((7, 0, 64, 0), 4), ((6, 0, 32, 0), 25)):
+        lines.ask(on_emulator(seek_line(text, end)), f"refused {row}")
+    lines.say("65,536 bytes by the emulator.")
+    run = [starting(5), promoting(), (10, rotating((0, 63, 0))), (3257, turning((0, 33, 0))), END]
+    assert length(spelled(*run)) == LONGEST
+    for end, told in (((6, 3, 33, 1), None), ((6, 0, 32, 0), NO_START), ((6, 2, 0, 1), NO_START)):
+        lines.ask(on_emulator(seek_line(spelled(*run), end)), told or started(5, end))
+
+
+def seeking_unread(lines):
+    lines.say("Not read: no number, one too few, one too many; a run of 66,001 bytes.")
+    text = spelled(starting(1), END)
+    whole = seek_line(text, (1, *X))
+    for line in (f"seeker {text}", whole.rpartition(" ")[0], whole + " 0x1"):
+        lines.ask(line, "unread")
+        lines.ask(on_emulator(line), "unread")
+    lines.ask(seek_line(spelled(starting(1), END, (HELD - 6, bytes(1))), (1, *X)), "unread")
+
+
 def limits():
     lines = Lines()
     for section in (
         fields, starts, reads, accepted, single_rows, rows_together, wrong_fields, wrong_places,
-        two_fields, cuts, lengths, room, values, carrying, passes, emulated, merging,
+        two_fields, cuts, lengths, room, values, carrying, passes, emulated, merging, seeking,
     ):
         section(lines)
     return lines.lines
@@ -1920,6 +2338,11 @@ def random_pauli(rng, n):
     kind = rng.randrange(4)
     x, z = (x if kind != 1 else 0), (z if kind != 2 else 0)
     return ((bin(x & z).count("1") + 2 * rng.randrange(2)) % 4, x, z)
+
+
+def random_phased(rng, n):
+    """Any Pauli on n qubits, Hermitian or not."""
+    return rng.randrange(4), rng.randrange(2**n), rng.randrange(2**n)
 
 
 def random_unit(rng):
@@ -2051,6 +2474,56 @@ def count_meetings(run, b, a, met, turned):
         b, a = after, passed(a, left)[1]
 
 
+def starts_for_ends():
+    """Accepted runs, each with an end that a start was carried to, and with any Pauli on its last qubits."""
+    rng, lines, counts = random.Random(15), Lines(), Counter()
+    lines.say("Runs of every kind of step from 0 to 12 qubits: an end that has a start, and one that may have none.")
+    emulator = []
+    for place in range(150):
+        n = place % 13
+        # Those from 0 to 5 qubits suit the emulator.
+        run = random_run(rng, n, rng.randrange(1, 8), 6 if n < 6 else 12)
+        _, steps = walk(b"".join(run), SERVICE)
+        reached = end_of(Pauli(n, *random_phased(rng, n)), steps)
+        other = Pauli(reached.n, *random_phased(rng, reached.n))
+        asked = [seek_line(spelled(*run), (end.n, end.k, end.x, end.z)) for end in (reached, other)]
+        lines.ask(asked[0], f"start {n} | carried {reached.shown()} | same")
+        lines.ask(asked[1])
+        if n < 6 and len(emulator) < 30:
+            emulator.append(asked[place % 2])
+        count_seeking(counts, n, steps, reached, other)
+    # Ends that are found and that are not, of runs that grow, keep their width and shrink; each kind of step; each phase.
+    wanted = [(sort, grows) for sort in ("found", "25") for grows in (-1, 0, 1)] + [("phase", k) for k in range(4)]
+    wanted += [("kind", tag) for tag in ("rotation", "promotion", "projection", "correction", "quarter-turn")]
+    wanted += [("from", n) for n in range(13)] + ["shared", "letter on a new qubit", "phase turned", "both ways"]
+    assert all(counts[what] > 4 for what in wanted), counts
+    lines.say("Thirty of them by the emulator.")
+    told = [answer(line) for line in emulator]
+    assert len(told) == 30 and 4 < told.count(NO_START) < 26
+    for line, same in zip(emulator, told):
+        lines.ask(on_emulator(line), same)
+    return lines.lines
+
+
+def count_seeking(counts, width, steps, reached, other):
+    """Which cases these two ends of a run are; from few qubits, whether both ways of finding a start agree."""
+    grows = (reached.n > width) - (reached.n < width)
+    counts["25" if matched(width, steps, other) is None else "found", grows] += 1
+    counts["phase", reached.k] += 1
+    counts["from", width] += 1
+    for kind in {step[0] for _, step in steps}:
+        counts["kind", kind] += 1
+    letters = [Pauli(width, 0, x << q, z << q) for q in range(width) for x, z in ((1, 0), (0, 1))]
+    # A letter of which no letter is left: each end that is reached has several starts.
+    counts["shared"] += 0 in [joined(end_of(letter, steps)) for letter in letters]
+    counts["letter on a new qubit"] += (reached.x | reached.z) >> width > 0
+    counts["phase turned"] += matched(width, steps, reached).k != reached.k
+    if width <= 3:
+        for end in (reached, other):
+            assert (tried(width, steps, end) is None) == (matched(width, steps, end) is None), "both ways"
+            counts["both ways"] += 1
+
+
 def buffers_of(line):
     return [[number(int(word, 16)) for word in part.split()] for part in line.split("|")[1:]]
 
@@ -2137,11 +2610,11 @@ def random_buffer(rng, exact):
 
 
 def random_line(rng):
-    shares = {"check": 20, "run": 16, "carry": 16, "passing": 8, "both": 11, "step": 8, "merge": 8, "field": 4, "start": 4, "cuts": 1}
+    shares = {"check": 20, "run": 16, "carry": 16, "passing": 8, "both": 11, "step": 8, "merge": 8, "seeker": 10, "field": 4, "start": 4, "cuts": 1}
     call = rng.choices(list(shares), list(shares.values()))[0]
     if call == "passing":
         return random_pass(rng)
-    if call in ("check", "run", "carry", "both", "step", "merge") and rng.randrange(3) == 0:
+    if call in ("check", "run", "carry", "both", "step", "merge", "seeker") and rng.randrange(3) == 0:
         # The emulator, and some of the same runs on the service: around its six qubits and few.
         line = random_run_line(rng, call, *rng.choice([(2, 6), (4, 7), (5, 6), (5, 7), (5, 8), (6, 6), (6, 7), (6, 8), (7, 8)]))
         step = f"{line} {rng.choice([6, 6, 7, 12])}" if call == "step" else line
@@ -2173,6 +2646,9 @@ def random_run_line(rng, call, n, widest):
     if call == "merge":
         line = merge_line(text, *(any_pauli(rng, n) for _ in (0, 1)))
         return line if rng.randrange(30) else rng.choice([line + " 0", line.rpartition(" ")[0]])
+    if call == "seeker":
+        line = seek_line(text, any_end(rng, run, n))
+        return line if rng.randrange(40) else rng.choice([line + " 0", line.rpartition(" ")[0]])
     width, *q = any_pauli(rng, n)
     if call == "carry":
         out = max(0, len(run) + rng.choice([0, 0, 0, 1, 5, -1, -len(run), 250]))
@@ -2188,6 +2664,22 @@ def any_pauli(rng, n):
     if rng.randrange(12) == 0:
         q[rng.randrange(3)] = rng.choice([4, 2**n, 255])
     return width, *q
+
+
+def any_end(rng, run, n):
+    """A Pauli on the run's last qubits that a start ends in, one that is a letter off, or any; for a refused run one on n qubits."""
+    try:
+        width, steps = walk(run, SERVICE)
+    except RefusedAt:
+        return any_pauli(rng, n)
+    end = end_of(Pauli(width, *random_phased(rng, width)), steps)
+    kind = rng.randrange(4)
+    if kind == 0:
+        return any_pauli(rng, end.n)
+    masks = [end.x, end.z]
+    if kind == 1 and end.n:
+        masks[rng.randrange(2)] ^= 1 << rng.randrange(end.n)
+    return end.n, end.k, *masks
 
 
 def random_pass(rng):
@@ -2213,7 +2705,7 @@ def kind_of(asked, told):
     name = call.removeprefix(EMULATED)
     if name == "merge" and "refused" in words:
         return f"{call} refused {words[words.index('refused') + 1]} of A"
-    return f"{call} {words[-1] if name in ('both', 'merge') else 'answered' if words[0].isdigit() else words[0]}"
+    return f"{call} {words[-1] if name in ('both', 'merge', 'seeker') else 'answered' if words[0].isdigit() else words[0]}"
 
 
 def fuzz(program, seed, count):
@@ -2221,7 +2713,7 @@ def fuzz(program, seed, count):
     rng, seen, batch, size, kinds = random.Random(seed), 0, [], 0, {}
     while seen < count or batch:
         line = random_line(rng) if seen < count else None
-        if line is None or size + len(line) + 1 > 786432:
+        if line is None or size + len(line) + 1 > 1048576:
             given = "".join(text + "\n" for text in batch)
             got = subprocess.run([program], input=given, capture_output=True, text=True, check=True).stdout.split("\n")
             for asked, told in zip(batch, got):
@@ -2281,6 +2773,7 @@ def listings(program, seed, count):
 
 def write(crates):
     lines = [*limits(), "# ---- both ways of demand 3", *replay(), "# ---- two corrections, one carry", *merges()]
+    lines += ["# ---- starts for ends", *starts_for_ends()]
     for file, texts in (("stdin", lines), ("stdout", map(answer, lines))):
         with open(f"{crates}/run_vectors/{file}", "w") as out:
             out.write("".join(text + "\n" for text in texts))

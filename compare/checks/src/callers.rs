@@ -32,6 +32,7 @@ pub struct Names {
     pub run: Name,
     pub serve: Name,
     pub carry: Name,
+    pub seek: Name,
 }
 
 const SERVICES: Names = Names {
@@ -47,6 +48,10 @@ const SERVICES: Names = Names {
         run: "carry",
         caller: "carry, the call's own",
     },
+    seek: Name {
+        run: "seek",
+        caller: "seek, the call's own",
+    },
 };
 
 const EMULATORS: Names = Names {
@@ -61,6 +66,10 @@ const EMULATORS: Names = Names {
     carry: Name {
         run: "carry_emulated",
         caller: "carry_emulated, the call's own",
+    },
+    seek: Name {
+        run: "seek_emulated",
+        caller: "seek_emulated, the call's own",
     },
 };
 
@@ -106,6 +115,13 @@ impl Who {
         match self {
             Who::Service => naribhush::carry_run(bytes, q, out),
             Who::Emulator => naribhush::carry_emulated(bytes, q, out),
+        }
+    }
+
+    pub fn seek(self, bytes: &[u8], end: ActivePauli) -> Answer<ActivePauli> {
+        match self {
+            Who::Service => naribhush::seek_start(bytes, end),
+            Who::Emulator => naribhush::seek_emulated(bytes, end),
         }
     }
 

@@ -13,6 +13,15 @@ pub fn active(p: Pauli) -> ActivePauli {
     }
 }
 
+pub fn pauli(p: ActivePauli) -> Pauli {
+    Pauli {
+        n: p.nqubits,
+        k: p.phase,
+        x: p.x,
+        z: p.z,
+    }
+}
+
 pub fn refusal(refusal: Refusal) -> naribhush::Refusal {
     let Refusal { number, place } = refusal;
     naribhush::Refusal { number, place }

@@ -1,14 +1,16 @@
-//! What the two programs share: lent buffers that fault on an access outside them, bit-exact comparison,
+//! What the programs share: lent buffers that fault on an access outside them, bit-exact comparison,
 //! random input of every kind, and the checks themselves.
 
 pub mod callers;
 pub mod case;
+pub mod clock;
 pub mod convert;
 pub mod direct_amplitudes;
 pub mod direct_past;
 pub mod direct_paulis;
 pub mod draw;
 pub mod floats;
+pub mod largest;
 pub mod lent;
 pub mod listings;
 pub mod merging;
@@ -17,6 +19,7 @@ pub mod numbers;
 pub mod offers;
 pub mod outcomes;
 pub mod patterns;
+pub mod seeking;
 pub mod state;
 pub mod tally;
 pub mod trials;

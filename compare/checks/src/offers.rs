@@ -1,12 +1,14 @@
-//! Bytes offered to every call that takes a run, the service's and the emulator's: the answer is the model's, a refused call
-//! writes nothing, an accepted one nothing past what it needs, and the lent run stays as it was.
+//! Bytes offered to every call that takes a run, the service's and the emulator's: the answer is the model's or, of a start that is
+//! sought, one that the model carries to the end; a refused call writes nothing, an accepted one nothing past what it needs, and
+//! the lent run stays as it was.
 
 use crate::callers::{BOTH, Who};
-use crate::convert::{active, answer, ending, read, survey};
+use crate::convert::{active, answer, ending, pauli, read, survey};
 use crate::draw;
 use crate::lent::Lender;
 use crate::listings::listing;
 use crate::mutate::bad_pauli;
+use crate::numbers::any_active;
 use crate::outcomes::Outcomes;
 use crate::patterns::{filling_bytes, hex};
 use crate::state::{Buffers, Contents, patterns};
@@ -14,17 +16,21 @@ use model::carry::carrying;
 use model::dice::Dice;
 use model::pauli::Pauli;
 use model::run::{self, Caller, EMULATOR, Survey, read_at, running};
+use model::seek::{end_of, seeking, serves};
 use naribhush::{Answer, Ending, Ledger, Read};
 
 const LIMITS: [usize; 6] = [60, 61, 62, 256, 257, usize::MAX];
 
 pub fn offer(lender: &Lender, dice: &mut Dice, bytes: &[u8], seen: &mut Outcomes) {
     let lent = lender.lend(dice, bytes);
+    // With dice of their own: the other calls draw what they would draw without them.
+    let mut apart = Dice(!dice.0);
     reads(dice, &lent, seen);
     check(dice, &lent, seen);
     for who in BOTH {
         run(lender, dice, who, &lent, seen);
         carry(lender, dice, who, &lent, seen);
+        seek(&mut apart, who, &lent, seen);
     }
     // Seldom: a listing can be 158,644 bytes long.
     if dice.once_in(16) {
@@ -226,12 +232,19 @@ fn any_ledger(dice: &mut Dice) -> Ledger {
 
 /// Mostly on the run's start qubits.
 fn any_frame(dice: &mut Dice, start: usize) -> Pauli {
-    let mut q = draw::pauli(dice, start);
+    let q = draw::pauli(dice, start);
+    damaged(dice, q)
+}
+
+/// Now and then no Pauli, or on other qubits.
+fn damaged(dice: &mut Dice, p: Pauli) -> Pauli {
+    let (mut q, n) = (p, p.n);
     if dice.once_in(4) {
         q = bad_pauli(dice, q);
     }
     if dice.once_in(8) {
-        q.n = dice.pick(&[0, start + 1, start + 2, 64, 256, 257, usize::MAX]);
+        let more = |by| n.saturating_add(by);
+        q.n = dice.pick(&[0, more(1), more(2), 64, 256, 257, usize::MAX]);
     }
     q
 }
@@ -255,4 +268,33 @@ fn carry(lender: &Lender, dice: &mut Dice, who: Who, bytes: &[u8], seen: &mut Ou
     let written = expected.map_or(Vec::new(), |(carried, _)| carried);
     let right = out.starts_with(&written) && out[written.len()..] == before[written.len()..];
     seen.holds(name.run, "out is as it should be", right, input);
+}
+
+// ------------------------------------------------------------------ seeking
+
+/// Mostly on the run's last qubits, half of these by carrying a start.
+fn any_end(dice: &mut Dice, bytes: &[u8], caller: Caller) -> Pauli {
+    let end = match run::read(bytes, caller) {
+        Ok(run) if dice.flip() => end_of(&run, draw::pauli(dice, run.width)),
+        Ok(run) => draw::pauli(dice, run.survey().width),
+        Err(_) => any_active(dice),
+    };
+    damaged(dice, end)
+}
+
+/// Nothing is lent for writing, and any start that serves is right.
+fn seek(dice: &mut Dice, who: Who, bytes: &[u8], seen: &mut Outcomes) {
+    let name = &who.names().seek;
+    let end = any_end(dice, bytes, who.caller());
+    let answered = who.seek(bytes, active(end));
+
+    let input = || format!("{end:?}, run {}", hex(bytes));
+    let sought = seeking(bytes, who.caller(), end);
+    let row = answer(sought.as_ref().map_err(|refusal| *refusal), |_| ());
+    seen.answered(name.of(&answered), &answered.map(|_| ()), &row, input);
+    if let (Ok(start), Ok(run)) = (answered, sought) {
+        let input = || format!("{start:?} for {}", input());
+        let right = serves(&run, pauli(start), end);
+        seen.holds(name.run, "its start is carried to the end", right, input);
+    }
 }

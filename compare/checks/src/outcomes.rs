@@ -7,7 +7,7 @@ use std::collections::BTreeMap;
 use std::fmt::Debug;
 
 /// Row 0 counts what was accepted.
-pub const ROWS: usize = 22;
+pub const ROWS: usize = 26;
 
 #[derive(Default)]
 pub struct Outcomes {

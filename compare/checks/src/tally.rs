@@ -1,5 +1,6 @@
 //! Counts by name, and what was found wrong.
 
+use crate::callers::Who;
 use std::collections::BTreeMap;
 
 #[derive(Default)]
@@ -10,6 +11,13 @@ impl Tally {
         *self.0.entry(name).or_default() += count as u64;
     }
 
+    /// Those of these names whose case was met.
+    pub fn count_met(&mut self, names: &[(bool, &'static str)]) {
+        for &(met, name) in names {
+            self.add(name, usize::from(met));
+        }
+    }
+
     pub fn count(&self, name: &'static str) -> u64 {
         self.0.get(name).copied().unwrap_or(0)
     }
@@ -18,6 +26,34 @@ impl Tally {
     pub fn missing(&self, wanted: &[&'static str]) -> Vec<&'static str> {
         let unseen = wanted.iter().filter(|name| self.count(name) == 0);
         unseen.copied().collect()
+    }
+}
+
+/// Counts by the name and by the caller whose calls were made.
+#[derive(Default)]
+pub struct Tallies {
+    service: Tally,
+    emulator: Tally,
+}
+
+impl Tallies {
+    pub fn of(&mut self, who: Who) -> &mut Tally {
+        match who {
+            Who::Service => &mut self.service,
+            Who::Emulator => &mut self.emulator,
+        }
+    }
+
+    pub fn print(&self, wanted: &[&'static str]) {
+        for name in wanted {
+            let [service, emulator] = [&self.service, &self.emulator].map(|seen| seen.count(name));
+            println!("  {name:46} {service:>9} {emulator:>9}");
+        }
+    }
+
+    pub fn missing(&self, wanted: &[&'static str]) -> Vec<&'static str> {
+        let unseen = [&self.service, &self.emulator].map(|seen| seen.missing(wanted));
+        unseen.concat()
     }
 }
 

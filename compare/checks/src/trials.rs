@@ -3,7 +3,7 @@
 use crate::two_ways::Trial;
 use crate::{draw, floats};
 use model::dice::Dice;
-use model::pauli::Pauli;
+use model::pauli::paulis;
 use model::run::{EMULATOR, LIMIT, Run, SERVICE, Step, step_row};
 
 /// Most runs have few qubits, so that a million of them take minutes, and the emulator takes them too; once in a while up to 12.
@@ -22,20 +22,8 @@ pub fn random_trial(dice: &mut Dice) -> Trial {
     }
 }
 
-/// All Paulis on n qubits.
-fn paulis(n: usize) -> impl Iterator<Item = Pauli> {
-    let masks = 1u64 << n;
-    let one = move |at: u64| Pauli {
-        n,
-        k: (at % 4) as u8,
-        x: at / 4 % masks,
-        z: at / 4 / masks,
-    };
-    (0..4 * masks * masks).map(one)
-}
-
 /// All steps at width n that no row refuses, but for their floats, which are drawn.
-fn single_steps(dice: &mut Dice, n: usize) -> Vec<Step> {
+pub fn single_steps(dice: &mut Dice, n: usize) -> Vec<Step> {
     let mut steps = vec![draw::promotion(dice)];
     for pauli in paulis(n) {
         steps.push(Step::Correction { pauli });

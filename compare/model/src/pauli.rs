@@ -13,6 +13,18 @@ pub fn parity(a: u64, b: u64) -> u8 {
     ((a & b).count_ones() % 2) as u8
 }
 
+/// All Paulis on n qubits.
+pub fn paulis(n: usize) -> impl Iterator<Item = Pauli> {
+    let masks = 1u64 << n;
+    let one = move |at: u64| Pauli {
+        n,
+        k: (at % 4) as u8,
+        x: at / 4 % masks,
+        z: at / 4 / masks,
+    };
+    (0..4 * masks * masks).map(one)
+}
+
 impl Pauli {
     pub fn identity(n: usize) -> Self {
         Self {
@@ -87,6 +99,23 @@ impl Pauli {
             };
             let to = b ^ self.x as usize;
             (re[to], im[to]) = (new_r, new_i);
+        }
+    }
+}
+
+#[cfg(test)]
+mod tests {
+    use super::*;
+
+    /// 4 phases and 4^n pairs of masks, no Pauli twice.
+    #[test]
+    fn all_paulis() {
+        for n in 0..=2 {
+            let all: Vec<Pauli> = paulis(n).collect();
+            assert_eq!(all.len(), 4 << (2 * n));
+            for (at, p) in all.iter().enumerate() {
+                assert!(p.is_pauli() && p.n == n && !all[..at].contains(p));
+            }
         }
     }
 }

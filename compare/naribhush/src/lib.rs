@@ -266,6 +266,7 @@ unsafe extern "C" {
     fn naribhush_check_within(run: *const u8, len: usize, limit: usize) -> Seen<Survey>;
     fn naribhush_run(run: *const u8, len: usize, re: *mut f64, re_len: usize, im: *mut f64, im_len: usize, scratch_re: *mut f64, scratch_re_len: usize, scratch_im: *mut f64, scratch_im_len: usize) -> SeenEnding;
     fn naribhush_carry(run: *const u8, len: usize, pauli: ActivePauli, out: *mut u8, out_len: usize) -> Seen<ActivePauli>;
+    fn naribhush_seek(run: *const u8, len: usize, end: ActivePauli) -> Seen<ActivePauli>;
     fn naribhush_past(pauli: ActivePauli, step: GivenStep) -> Seen<Past>;
     fn naribhush_listing(run: *const u8, len: usize, out: *mut u8, out_len: usize) -> Seen<usize>;
     fn naribhush_serve(ledger: Ledger, run: *const u8, len: usize, re: *mut f64, re_len: usize, im: *mut f64, im_len: usize, scratch_re: *mut f64, scratch_re_len: usize, scratch_im: *mut f64, scratch_im_len: usize) -> SeenServed;
@@ -274,6 +275,7 @@ unsafe extern "C" {
     fn naribhush_check_emulated(run: *const u8, len: usize) -> Seen<Survey>;
     fn naribhush_run_emulated(run: *const u8, len: usize, re: *mut f64, re_len: usize, im: *mut f64, im_len: usize, scratch_re: *mut f64, scratch_re_len: usize, scratch_im: *mut f64, scratch_im_len: usize) -> SeenEnding;
     fn naribhush_carry_emulated(run: *const u8, len: usize, pauli: ActivePauli, out: *mut u8, out_len: usize) -> Seen<ActivePauli>;
+    fn naribhush_seek_emulated(run: *const u8, len: usize, end: ActivePauli) -> Seen<ActivePauli>;
     fn naribhush_serve_emulated(ledger: Ledger, run: *const u8, len: usize, re: *mut f64, re_len: usize, im: *mut f64, im_len: usize, scratch_re: *mut f64, scratch_re_len: usize, scratch_im: *mut f64, scratch_im_len: usize) -> SeenServed;
 }
 
@@ -567,6 +569,11 @@ pub fn carry_run(run: &[u8], pauli: ActivePauli, out: &mut [u8]) -> Answer<Activ
     seen.answer()
 }
 
+/// Some Pauli on the start qubits that is carried to this end.
+pub fn seek_start(run: &[u8], end: ActivePauli) -> Answer<ActivePauli> {
+    unsafe { naribhush_seek(run.as_ptr(), run.len(), end) }.answer()
+}
+
 /// The Pauli past one step.
 pub fn past(pauli: ActivePauli, step: GivenStep) -> Answer<Past> {
     unsafe { naribhush_past(pauli, step) }.answer()
@@ -647,6 +654,10 @@ pub fn carry_emulated(run: &[u8], pauli: ActivePauli, out: &mut [u8]) -> Answer<
         naribhush_carry_emulated(run.as_ptr(), run.len(), pauli, out.as_mut_ptr(), out.len())
     };
     seen.answer()
+}
+
+pub fn seek_emulated(run: &[u8], end: ActivePauli) -> Answer<ActivePauli> {
+    unsafe { naribhush_seek_emulated(run.as_ptr(), run.len(), end) }.answer()
 }
 
 /// The run's answer, and the ledger behind it, which counts none of these.

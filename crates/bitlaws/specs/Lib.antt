@@ -10,3 +10,6 @@ pub mod Source
 pub mod Pairs
 pub mod Words
 pub mod Highest
+pub mod Elimination
+pub mod Eliminated
+pub mod LinearWords

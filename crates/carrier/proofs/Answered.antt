@@ -5,7 +5,7 @@ use Prim.Native.Nat.{ℕ}
 use native.Mathlib.Omega.{arith}
 use lib.ListN.{length, take, drop, length-append}
 use lib.Seq.{take-length}
-use Rattle.answers.specs.Answer.{Answer, valueOr}
+use Rattle.answers.specs.Answer.{Answer}
 use Rattle.answers.specs.Answer.Answer.{accepted, refused, refusedAt}
 use Rattle.answers.specs.Row.{refusing, passing}
 use Rattle.paulilaws.specs.Pauli.{Pauli}
@@ -14,26 +14,12 @@ use Rattle.framelaws.specs.Carrying.{carriedSteps, endPauli}
 use Rattle.framelaws.specs.Survey.{Survey}
 use Rattle.runlaws.specs.Flags.{flagged}
 use Rattle.runlaws.specs.Run.{runOf}
-use Rattle.runlaws.specs.Calls.{onRun, CheckedRun, checkedRunOf, checkingWithStart, carryingRow, carriedRun, carrying}
-use Rattle.runlaws.specs.Mapped.{From, mapped-accepted, mapped-refused}
+use Rattle.runlaws.specs.Calls.{onRun, checkedRunOf, checkingWithStart, carryingRow, carriedRun, carrying}
+use Rattle.runlaws.specs.Mapped.{mapped-refused}
+use Rattle.runlaws.specs.OnStart.{runIn, checked-read, checked-start}
 use Rattle.runlaws.specs.Outcomes.{carrying-passed}
 use Rattle.runlaws.specs.Flagged.{carried-append}
-use Rattle.carrier.specs.Ready.{runIn, Ready}
-
--- ---- the check: it is the run's own answer
-
-module _ (caller : Caller) (s : List ℕ) {width : ℕ} {v : Survey} (checked : checkingWithStart caller s ≡ accepted (record { start = width; survey = v })) where
-  from : From checkedRunOf (runOf caller s) (record { start = width; survey = v })
-  unfolding checkingWithStart
-  from = mapped-accepted checkedRunOf (runOf caller s) (record { start = width; survey = v }) checked
-
-  accepts : runOf caller s ≡ accepted (runIn caller s)
-  unfolding runIn valueOr
-  accepts = rw (from .was)
-
-  begins : width ≡ runIn caller s .width
-  unfolding runIn valueOr
-  begins = rw (from .was) (ap (λ (k : CheckedRun). k .start) (from .is))
+use Rattle.carrier.specs.Ready.{Ready}
 
 -- ---- the answers
 
@@ -50,13 +36,13 @@ module _ (caller : Caller) (s : List ℕ) (Q : Pauli) (out : List ℕ) where
   module _ {width : ℕ} {v : Survey} (checked : checkingWithStart caller s ≡ accepted (record { start = width; survey = v })) {r : ℕ}
       (is : r ≡ carryingRow Q width (length s) (length out)) where
     row-is : r ≡ carryingRow Q (runIn caller s .width) (length s) (length out)
-    row-is = is ∙ ap (λ (n : ℕ). carryingRow Q n (length s) (length out)) (begins caller s checked)
+    row-is = is ∙ ap (λ (n : ℕ). carryingRow Q n (length s) (length out)) (checked-start caller s checked)
 
     pub row-refused : (r ≡ 0 → ⊥) → Carries (refused r) out
     unfolding carrying onRun
     row-refused ne =
         let R = runIn caller s in
-        rw (accepts caller s checked)
+        rw (checked-read caller s checked)
         (refusing (carryingRow Q (R .width) (length s) (length out)) (endPauli Q (R .steps)) (carriedRun Q R s ++ drop (length s) out) out r row-is ne)
 
     module _ (none : r ≡ 0) {copy : List ℕ} (copied : copy ≡ take (length s) s ++ drop (length s) out) where
@@ -67,9 +53,7 @@ module _ (caller : Caller) (s : List ℕ) (Q : Pauli) (out : List ℕ) where
       ready =
           let known = carrying-passed Q width (length s) (length out) (sym is ∙ none) in
           record {
-            read = accepts caller s checked;
-            admitted = known .0;
-            width = known .1 ∙ begins caller s checked;
+            begins = record { read = checked-read caller s checked; admitted = known .0; width = known .1 ∙ checked-start caller s checked };
             room = rw whole (simp length-append (omega arith));
           }
 
@@ -79,6 +63,6 @@ module _ (caller : Caller) (s : List ℕ) (Q : Pauli) (out : List ℕ) where
       done Q' out' ends writes =
           let R = runIn caller s in
           let written : out' ≡ carriedRun Q R s ++ drop (length s) out
-          = writes ∙ ap (flagged 4 (carriedSteps Q (R .steps))) whole ∙ carried-append caller s (drop (length s) out) Q R (accepts caller s checked) in
-          rw (accepts caller s checked, ends)
+          = writes ∙ ap (flagged 4 (carriedSteps Q (R .steps))) whole ∙ carried-append caller s (drop (length s) out) Q R (checked-read caller s checked) in
+          rw (checked-read caller s checked, ends)
           (passing (carryingRow Q (R .width) (length s) (length out)) (endPauli Q (R .steps)) (carriedRun Q R s ++ drop (length s) out) out out' (sym row-is ∙ none) written)

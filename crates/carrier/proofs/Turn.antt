@@ -13,7 +13,8 @@ use Rattle.runlaws.specs.Flags.{fieldSize, flagAt, flagged}
 use Rattle.runlaws.specs.Flagged.{flag-length, carried-size}
 use Rattle.runlaws.specs.Going.{Going, going-outset, Gone}
 use Rattle.runlaws.specs.Reading.{Cursor}
-use Rattle.carrier.specs.Ready.{runIn, Ready}
+use Rattle.runlaws.specs.OnStart.{runIn}
+use Rattle.carrier.specs.Ready.{Ready}
 
 -- At a cursor, with the Pauli and the output as they are there: the steps that are left take them to the end Pauli and to all flags.
 pub record Carrying (caller : Caller) (s : List ℕ) (last : Pauli) (all : List ℕ) (c : Cursor) (Q : Pauli) (out : List ℕ) : Type 0 where
@@ -29,7 +30,7 @@ pub outset : (caller : Caller) (s : List ℕ) (Q : Pauli) (out : List ℕ) → R
     Carrying caller s (endPauli Q steps) (flagged 4 (carriedSteps Q steps) out) (record { at = 4; width = Q .n }) Q out
 outset caller s Q out r = record {
   steps = runIn caller s .steps;
-  going = going-outset caller s (runIn caller s) Q (r .read) (r .admitted) (r .width);
+  going = going-outset caller s (runIn caller s) Q (r .begins .read) (r .begins .admitted) (r .begins .width);
   ends = refl;
   writes = refl;
   room = r .room;

@@ -16,10 +16,11 @@ ghost use Rattle.framelaws.specs.Caller.{service, emulator};
 ghost use Rattle.framelaws.specs.Carrying.{carriedSteps, endPauli};
 ghost use Rattle.runlaws.specs.Flags.{fieldSize, flagAt, flagged};
 ghost use Rattle.runlaws.specs.Calls.{carrying, carryingRow};
+ghost use Rattle.runlaws.specs.OnStart.{runIn};
 ghost use Rattle.callers.specs.Meaning.{callerOf};
 ghost use Rattle.steps.specs.Meaning.{stepOf};
 ghost use Rattle.carrier.specs.Meaning.{carryAnswerOf};
-ghost use Rattle.carrier.specs.Ready.{runIn, Ready};
+ghost use Rattle.carrier.specs.Ready.{Ready};
 
 // The end Pauli; or the run's own refusal with its place, or 3, 4 or 16.
 pub enum CarryAnswer {
@@ -73,13 +74,10 @@ fn carry_for(run: &[u8], pauli: ActivePauli, out: &mut [u8], caller: Caller) -> 
 fn carrying_row(pauli: ActivePauli, width: usize, size: usize, room: usize) -> u8
     ensures { λ r. ⌜ r ≡ carryingRow (activeOf pauli) width size room ⌝ }
 {
-    if !pauli.is_pauli() {
-        return 3;
-    }
-    if pauli.nqubits != width {
-        return 4;
-    }
-    if room < size { 16 } else { 0 }
+    rows::first(
+        passing::placed_row(pauli, width),
+        rows::row(room < size, 16),
+    )
 }
 
 // Past each step of a run that was checked, of which `out` holds a copy: the Pauli at the end. What is no

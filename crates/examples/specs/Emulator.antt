@@ -135,7 +135,7 @@ agreeing = record { at = at }
     at (suc zero) h = refl
     at (suc (suc b)) h = absurd (omega arith)
 
-met : Agreed service emulator run here board
+pub met : Agreed service emulator run here board
 unfolding isAccepted
 met = on-the-board run here board checked (ap isAccepted runs-here) checks (lit≤ tt) (lit≤ tt, lit≤ tt) (lit≤ tt, lit≤ tt) agreeing
 

@@ -4,4 +4,5 @@ pub mod QuarterTurns
 pub mod Instance
 pub mod Emulator
 pub mod TwoCorrections
+pub mod StartForEnd
 pub mod Seven

@@ -22,6 +22,7 @@ use Rattle.amplitudelaws.specs.State.{point, written, roomFor, room}
 use Rattle.amplitudelaws.specs.Steps as leaves
 use Rattle.amplitudelaws.specs.Step.{widthAfter}
 use Rattle.framelaws.specs.Caller.{service}
+use Rattle.framelaws.specs.PassRow.{placedRow}
 use Rattle.framelaws.specs.Rows.{stepRow}
 use Rattle.framelaws.specs.Carrying.{turnedBy, turnedPast, carriedStep, passed, carriedSteps, endPauli}
 use Rattle.framelaws.specs.Memory.{memoryOf, stepped, ran}
@@ -86,7 +87,7 @@ record QuarterTurns : Type 0 where
   no-pauli : carrying service otherTurn (pauli X) [] .answer ≡ refusedAt 3 4
 
 quarter-turns : QuarterTurns
-unfolding pauli valueOr readCall reading refuse letterOfByte withLetter letterAt digit put product overlap parity ones onesIn coefficient ys shown prefix body lettersFrom carrying running onRun memoryRow surveyOf survey surveyFrom surveyed mixedAmplitudes roomFor room roomRow carryingRow carriedRun runOf begun startWidth mapped walk follow ended readAt readField judged judgedBy unless decoded fieldAt isWhole bodyLength number pauliAt fits hermitian flagged flagAt fieldSize carriedSteps carriedStep passed anti turnedBy turnedPast endPauli raised widthAfter stepRow hermitianRow widthRow row first answered left stepped ran leaves.rotation written point over rotated rotatedBy rotatedAlone rotatedWith rotationCoefficient power times direction negated scale mixed add sub mul le neg ofBits
+unfolding pauli valueOr readCall reading refuse letterOfByte withLetter letterAt digit put product overlap parity ones onesIn coefficient ys shown prefix body lettersFrom carrying running onRun memoryRow surveyOf survey surveyFrom surveyed mixedAmplitudes roomFor room roomRow carryingRow placedRow carriedRun runOf begun startWidth mapped walk follow ended readAt readField judged judgedBy unless decoded fieldAt isWhole bodyLength number pauliAt fits hermitian flagged flagAt fieldSize carriedSteps carriedStep passed anti turnedBy turnedPast endPauli raised widthAfter stepRow hermitianRow widthRow row first answered left stepped ran leaves.rotation written point over rotated rotatedBy rotatedAlone rotatedWith rotationCoefficient power times direction negated scale mixed add sub mul le neg ofBits
 quarter-turns = record {
   x-becomes-y = refl;
   shown-as-y = refl;

@@ -27,6 +27,7 @@ use Rattle.amplitudelaws.specs.State.{stateOf, point, written}
 use Rattle.amplitudelaws.specs.Steps.{promotion}
 use Rattle.amplitudelaws.specs.Step.{widthAfter}
 use Rattle.framelaws.specs.Caller.{service}
+use Rattle.framelaws.specs.PassRow.{placedRow}
 use Rattle.framelaws.specs.Rows.{stepRow, rotationStepRow, projectionStepRow}
 use Rattle.framelaws.specs.Carrying.{flipped, deciding, meets, absorbed, carriedStep, passed, carriedSteps, endPauli}
 use Rattle.runlaws.specs.Bytes.{number, floatAt, pauliAt}
@@ -92,7 +93,7 @@ record Starred : Type 0 where
   promoting-1 : promotion 0 zero one (stateOf (one ∷ zero ∷ []) (zero ∷ zero ∷ [])) ≡ stateOf (zero ∷ minusZero ∷ []) (zero ∷ one ∷ [])
 
 starred : Starred
-unfolding opening openBit refuse pauli valueOr readCall reading letterOfByte withLetter letterAt digit put product overlap parity ones onesIn coefficient ys shown prefix body lettersFrom minus remainingBy remaining source scale raised promoted promotion point written over mul neg ofBits carrying onRun carryingRow carriedRun runOf begun startWidth mapped walk follow ended readAt readField judged judgedBy unless decoded fieldAt isWhole bodyLength number floatAt pauliAt fits hermitian flagged flagAt fieldSize carriedSteps carriedStep passed flipped anti deciding meets absorbed endPauli raisedPhase dropped dropBit widthAfter stepRow rotationStepRow projectionStepRow rotationKernelRow measurementRow hermitianRow widthRow unitRow pivotRow pivotMask inUnit row first answered left le
+unfolding opening openBit refuse pauli valueOr readCall reading letterOfByte withLetter letterAt digit put product overlap parity ones onesIn coefficient ys shown prefix body lettersFrom minus remainingBy remaining source scale raised promoted promotion point written over mul neg ofBits carrying onRun carryingRow placedRow carriedRun runOf begun startWidth mapped walk follow ended readAt readField judged judgedBy unless decoded fieldAt isWhole bodyLength number floatAt pauliAt fits hermitian flagged flagAt fieldSize carriedSteps carriedStep passed flipped anti deciding meets absorbed endPauli raisedPhase dropped dropBit widthAfter stepRow rotationStepRow projectionStepRow rotationKernelRow measurementRow hermitianRow widthRow unitRow pivotRow pivotMask inUnit row first answered left le
 starred = record {
   open-bit-1-of-5 = refl;
   x-times-z = refl;

@@ -20,6 +20,7 @@ use Rattle.amplitudelaws.specs.Binary.{inUnit}
 use Rattle.amplitudelaws.specs.Rows.{rotationKernelRow, measurementRow, hermitianRow, widthRow, unitRow, promotedWidthRow, pivotRow, pivotMask}
 use Rattle.amplitudelaws.specs.Step.{widthAfter}
 use Rattle.framelaws.specs.Caller.{service, emulator}
+use Rattle.framelaws.specs.PassRow.{placedRow}
 use Rattle.framelaws.specs.Rows.{stepRow, rotationStepRow, promotionStepRow, projectionStepRow}
 use Rattle.framelaws.specs.Identity.{phaseOn}
 use Rattle.framelaws.specs.Survey.{mixedAmplitudes, surveyed, surveyFrom, survey}
@@ -93,7 +94,7 @@ record ByHand : Type 0 where
   ix-twice : Merges (projected 1) iX iX (record { n = 1; k = 2; x = 0; z = 0 }) (projected 1) (projected 1) (phase 3) (phase 3) (phase 2)
 
 by-hand : ByHand
-unfolding carrying onRun carryingRow carriedRun runOf begun startWidth mapped walk follow ended readAt readField judged judgedBy unless decoded fieldAt isWhole bodyLength number floatAt pauliAt fits hermitian coefficient ys flagged flagAt fieldSize carriedSteps carriedStep passed flipped anti product deciding meets absorbed turnedBy turnedPast endPauli raised dropped dropBit widthAfter stepRow projectionStepRow measurementRow hermitianRow widthRow pivotRow pivotMask row first answered left ofBits digit overlap parity ones onesIn
+unfolding carrying onRun carryingRow placedRow carriedRun runOf begun startWidth mapped walk follow ended readAt readField judged judgedBy unless decoded fieldAt isWhole bodyLength number floatAt pauliAt fits hermitian coefficient ys flagged flagAt fieldSize carriedSteps carriedStep passed flipped anti product deciding meets absorbed turnedBy turnedPast endPauli raised dropped dropBit widthAfter stepRow projectionStepRow measurementRow hermitianRow widthRow pivotRow pivotMask row first answered left ofBits digit overlap parity ones onesIn
 by-hand = record {
   x-then-z-alone = record { is = refl; one = refl; two = refl; at-once = refl; ends = refl };
   z-then-x-alone = record { is = refl; one = refl; two = refl; at-once = refl; ends = refl };
@@ -109,7 +110,7 @@ by-hand = record {
 
 -- X, Z and X in turn: the last finds branch 1. X Z X is -Z, which flips the branch and ends in -1.
 three : InTurn service (projected 0) X (Z ∷ X ∷ []) (phase 2) (projected 1)
-unfolding carrying onRun carryingRow carriedRun runOf begun startWidth mapped walk follow ended readAt readField judged judgedBy unless decoded fieldAt isWhole bodyLength number floatAt pauliAt fits hermitian coefficient ys flagged flagAt fieldSize carriedSteps carriedStep passed flipped anti product deciding meets absorbed turnedBy turnedPast endPauli raised dropped dropBit widthAfter stepRow projectionStepRow measurementRow hermitianRow widthRow pivotRow pivotMask row first answered left ofBits digit overlap parity ones onesIn
+unfolding carrying onRun carryingRow placedRow carriedRun runOf begun startWidth mapped walk follow ended readAt readField judged judgedBy unless decoded fieldAt isWhole bodyLength number floatAt pauliAt fits hermitian coefficient ys flagged flagAt fieldSize carriedSteps carriedStep passed flipped anti product deciding meets absorbed turnedBy turnedPast endPauli raised dropped dropBit widthAfter stepRow projectionStepRow measurementRow hermitianRow widthRow pivotRow pivotMask row first answered left ofBits digit overlap parity ones onesIn
 three = next (outputFor (projected 0)) refl (next (projected 0) refl (last (outputFor (0 ∷ projected 1)) refl))
 
 as-one : productOf X (Z ∷ X ∷ []) ≡ record { n = 1; k = 2; x = 0; z = 1 }
@@ -140,7 +141,7 @@ abbrev after : List ℕ
 after = steps 0 1 1 1 1
 
 carries-x : isAccepted (carrying service run X second .answer) ≡ true
-unfolding isAccepted carrying onRun carryingRow carriedRun runOf begun startWidth mapped walk follow ended readAt readField judged judgedBy unless decoded fieldAt isWhole bodyLength number floatAt pauliAt fits hermitian coefficient ys widthAfter stepRow rotationStepRow promotionStepRow projectionStepRow rotationKernelRow measurementRow hermitianRow widthRow unitRow promotedWidthRow pivotRow pivotMask inUnit row first answered left le neg ofBits digit overlap parity ones onesIn
+unfolding isAccepted carrying onRun carryingRow placedRow carriedRun runOf begun startWidth mapped walk follow ended readAt readField judged judgedBy unless decoded fieldAt isWhole bodyLength number floatAt pauliAt fits hermitian coefficient ys widthAfter stepRow rotationStepRow promotionStepRow projectionStepRow rotationKernelRow measurementRow hermitianRow widthRow unitRow promotedWidthRow pivotRow pivotMask inUnit row first answered left le neg ofBits digit overlap parity ones onesIn
 carries-x = refl
 
 carries-y : isAccepted (carrying service run Y output .answer) ≡ true
@@ -152,7 +153,7 @@ met = two-corrections-at-the-service .accepts run output second third Y X (recor
 
 -- Y X is -i Z; it ends in -i, which is i times -1
 merged : carrying service run (record { n = 1; k = 3; x = 0; z = 1 }) third ≡ record { answer = accepted (record { n = 1; k = 3; x = 0; z = 0 }); lent = after }
-unfolding carrying onRun carryingRow carriedRun runOf begun startWidth mapped walk follow ended readAt readField judged judgedBy unless decoded fieldAt isWhole bodyLength number floatAt pauliAt fits hermitian coefficient ys flagged flagAt fieldSize carriedSteps carriedStep passed flipped anti product deciding meets absorbed widened turnedBy turnedPast endPauli raised dropped dropBit widthAfter stepRow rotationStepRow promotionStepRow projectionStepRow rotationKernelRow measurementRow hermitianRow widthRow unitRow promotedWidthRow pivotRow pivotMask inUnit row first answered left le neg ofBits digit overlap parity ones onesIn
+unfolding carrying onRun carryingRow placedRow carriedRun runOf begun startWidth mapped walk follow ended readAt readField judged judgedBy unless decoded fieldAt isWhole bodyLength number floatAt pauliAt fits hermitian coefficient ys flagged flagAt fieldSize carriedSteps carriedStep passed flipped anti product deciding meets absorbed widened turnedBy turnedPast endPauli raised dropped dropBit widthAfter stepRow rotationStepRow promotionStepRow projectionStepRow rotationKernelRow measurementRow hermitianRow widthRow unitRow promotedWidthRow pivotRow pivotMask inUnit row first answered left le neg ofBits digit overlap parity ones onesIn
 merged = refl
 
 -- so that A, carried through what B leaves, leaves these bytes
@@ -169,11 +170,11 @@ abbrev long : List ℕ
 long = outputFor run
 
 carries-ix : isAccepted (carrying emulator run iX run .answer) ≡ true
-unfolding isAccepted carrying onRun carryingRow carriedRun runOf begun startWidth mapped walk follow ended readAt readField judged judgedBy unless decoded fieldAt isWhole bodyLength number floatAt pauliAt fits hermitian coefficient ys widthAfter stepRow rotationStepRow promotionStepRow projectionStepRow rotationKernelRow measurementRow hermitianRow widthRow unitRow promotedWidthRow pivotRow pivotMask inUnit row first answered left le neg ofBits digit overlap parity ones onesIn
+unfolding isAccepted carrying onRun carryingRow placedRow carriedRun runOf begun startWidth mapped walk follow ended readAt readField judged judgedBy unless decoded fieldAt isWhole bodyLength number floatAt pauliAt fits hermitian coefficient ys widthAfter stepRow rotationStepRow promotionStepRow projectionStepRow rotationKernelRow measurementRow hermitianRow widthRow unitRow promotedWidthRow pivotRow pivotMask inUnit row first answered left le neg ofBits digit overlap parity ones onesIn
 carries-ix = refl
 
 carries-xz : isAccepted (carrying emulator run XZ long .answer) ≡ true
-unfolding isAccepted carrying onRun carryingRow carriedRun runOf begun startWidth mapped walk follow ended readAt readField judged judgedBy unless decoded fieldAt isWhole bodyLength number floatAt pauliAt fits hermitian coefficient ys widthAfter stepRow rotationStepRow promotionStepRow projectionStepRow rotationKernelRow measurementRow hermitianRow widthRow unitRow promotedWidthRow pivotRow pivotMask inUnit row first answered left le neg ofBits digit overlap parity ones onesIn
+unfolding isAccepted carrying onRun carryingRow placedRow carriedRun runOf begun startWidth mapped walk follow ended readAt readField judged judgedBy unless decoded fieldAt isWhole bodyLength number floatAt pauliAt fits hermitian coefficient ys widthAfter stepRow rotationStepRow promotionStepRow projectionStepRow rotationKernelRow measurementRow hermitianRow widthRow unitRow promotedWidthRow pivotRow pivotMask inUnit row first answered left le neg ofBits digit overlap parity ones onesIn
 carries-xz = refl
 
 met-on-the-board : OneCarry emulator run run long long iX XZ
@@ -188,11 +189,11 @@ abbrev wide : Pauli
 wide = record { n = 2; k = 0; x = 0; z = 0 }
 
 refused-by-4 : carrying service (sent service run Y output) wide run .answer ≡ refused 4
-unfolding isAccepted carrying onRun carryingRow carriedRun runOf begun startWidth mapped walk follow ended readAt readField judged judgedBy unless decoded fieldAt isWhole bodyLength number floatAt pauliAt fits hermitian coefficient ys widthAfter stepRow rotationStepRow promotionStepRow projectionStepRow rotationKernelRow measurementRow hermitianRow widthRow unitRow promotedWidthRow pivotRow pivotMask inUnit row first answered left le neg ofBits digit overlap parity ones onesIn
+unfolding isAccepted carrying onRun carryingRow placedRow carriedRun runOf begun startWidth mapped walk follow ended readAt readField judged judgedBy unless decoded fieldAt isWhole bodyLength number floatAt pauliAt fits hermitian coefficient ys widthAfter stepRow rotationStepRow promotionStepRow projectionStepRow rotationKernelRow measurementRow hermitianRow widthRow unitRow promotedWidthRow pivotRow pivotMask inUnit row first answered left le neg ofBits digit overlap parity ones onesIn
 refused-by-4 = two-corrections-at-the-service .refuses run output run Y wide carries-y 4 .0 refl
 
 not-accepted : isAccepted (carrying service (sent service run Y output) wide run .answer) ≡ false
-unfolding isAccepted carrying onRun carryingRow carriedRun runOf begun startWidth mapped walk follow ended readAt readField judged judgedBy unless decoded fieldAt isWhole bodyLength number floatAt pauliAt fits hermitian coefficient ys widthAfter stepRow rotationStepRow promotionStepRow projectionStepRow rotationKernelRow measurementRow hermitianRow widthRow unitRow promotedWidthRow pivotRow pivotMask inUnit row first answered left le neg ofBits digit overlap parity ones onesIn
+unfolding isAccepted carrying onRun carryingRow placedRow carriedRun runOf begun startWidth mapped walk follow ended readAt readField judged judgedBy unless decoded fieldAt isWhole bodyLength number floatAt pauliAt fits hermitian coefficient ys widthAfter stepRow rotationStepRow promotionStepRow projectionStepRow rotationKernelRow measurementRow hermitianRow widthRow unitRow promotedWidthRow pivotRow pivotMask inUnit row first answered left le neg ofBits digit overlap parity ones onesIn
 not-accepted = two-corrections-at-the-service .alike run output run Y wide carries-y ∙ refl
 
 -- -i through every kind of step
@@ -201,7 +202,7 @@ unfolding checking surveyOf survey surveyFrom surveyed mixedAmplitudes runOf beg
 checks = refl
 
 kept : carrying service run (phaseOn 1 3) long ≡ record { answer = accepted (phaseOn 1 3); lent = run ++ 238 ∷ [] }
-unfolding isAccepted carrying onRun carryingRow carriedRun runOf begun startWidth mapped walk follow ended readAt readField judged judgedBy unless decoded fieldAt isWhole bodyLength number floatAt pauliAt fits hermitian coefficient ys widthAfter stepRow rotationStepRow promotionStepRow projectionStepRow rotationKernelRow measurementRow hermitianRow widthRow unitRow promotedWidthRow pivotRow pivotMask inUnit row first answered left le neg ofBits digit overlap parity ones onesIn
+unfolding isAccepted carrying onRun carryingRow placedRow carriedRun runOf begun startWidth mapped walk follow ended readAt readField judged judgedBy unless decoded fieldAt isWhole bodyLength number floatAt pauliAt fits hermitian coefficient ys widthAfter stepRow rotationStepRow promotionStepRow projectionStepRow rotationKernelRow measurementRow hermitianRow widthRow unitRow promotedWidthRow pivotRow pivotMask inUnit row first answered left le neg ofBits digit overlap parity ones onesIn
 kept = two-corrections-at-the-service .unchanged run long 1 3 (record { width = 1; steps = 9; greatest = 2; scratch = 2 }) checks refl
 
 -- Y and then i Y: the run is there again, and of the end Paulis the phase i is left, which is that of Y i Y
@@ -209,7 +210,7 @@ abbrev iY : Pauli
 iY = record { n = 1; k = 2; x = 1; z = 1 }
 
 undone : Undone service run output run Y iY
-unfolding isAccepted carrying onRun carryingRow carriedRun runOf begun startWidth mapped walk follow ended readAt readField judged judgedBy unless decoded fieldAt isWhole bodyLength number floatAt pauliAt fits hermitian coefficient ys widthAfter stepRow rotationStepRow promotionStepRow projectionStepRow rotationKernelRow measurementRow hermitianRow widthRow unitRow promotedWidthRow pivotRow pivotMask inUnit row first answered left le neg ofBits digit overlap parity ones onesIn
+unfolding isAccepted carrying onRun carryingRow placedRow carriedRun runOf begun startWidth mapped walk follow ended readAt readField judged judgedBy unless decoded fieldAt isWhole bodyLength number floatAt pauliAt fits hermitian coefficient ys widthAfter stepRow rotationStepRow promotionStepRow projectionStepRow rotationKernelRow measurementRow hermitianRow widthRow unitRow promotedWidthRow pivotRow pivotMask inUnit row first answered left le neg ofBits digit overlap parity ones onesIn
 undone = two-corrections-at-the-service .undoes run output run Y iY refl refl carries-y refl
 
 there-again : sent service (sent service run Y output) iY run ≡ run

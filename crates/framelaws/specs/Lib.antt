@@ -30,5 +30,9 @@ pub mod MergedProjection
 pub mod MergedQuarterTurn
 pub mod Merging
 pub mod Identity
+pub mod CarriedMasks
+pub mod CarriedPhase
+pub mod Seeking
+pub mod Sought
 pub mod List
 pub mod Acted

@@ -1,4 +1,5 @@
--- Any Pauli taken past any step: which row of the table refuses it, lowest number first, and else what is behind the step.
+-- Any Pauli taken past any step: which row of the table refuses it, lowest number first, and else what is behind the step. And which rows refuse a Pauli that is to be
+-- on so many qubits.
 use mathlib.Core.Path.{_≡_, refl}
 use mathlib.Core.Bool.{not, _&&_}
 use Prim.Native.Nat.{ℕ, _^_}
@@ -9,6 +10,10 @@ use Rattle.paulilaws.specs.Pauli.{Pauli, fits, identity}
 use Rattle.amplitudelaws.specs.Step.{Step}
 use Rattle.amplitudelaws.specs.Step.Step.{rotation, promotion, projection, correction, quarterTurn}
 use Rattle.framelaws.specs.Carrying.{widened, carriedStep, passed}
+
+-- 3: no Pauli, 4: not on n qubits
+unfoldable pub placedRow : Pauli → ℕ → ℕ
+placedRow Q n = row (not (fits Q)) 3 (row (not (eqb (Q .n) n)) 4 0)
 
 -- 3: one of the two is no Pauli, 4: they are not on the same number of qubits
 unfoldable pub pairRow : Pauli → Pauli → ℕ

@@ -20,7 +20,7 @@ use Rattle.framelaws.specs.Carrying.{flipped, meets, widened, turnedPast
 use Rattle.framelaws.specs.Allowed.{Placed}
 use Rattle.framelaws.specs.Passing.{rotation-fitting, correction-fitting, projection-measurable, quarter-turn-fitting}
 use Rattle.framelaws.specs.Fitted.{widened-fitting, absorbed-width, remaining-fitting, turned-width, turned-fitting}
-use Rattle.framelaws.specs.PassRow.{pairRow, widenedRow, passRow}
+use Rattle.framelaws.specs.PassRow.{placedRow, pairRow, widenedRow, passRow}
 
 -- two Paulis on the same qubits
 pub record Paired (Q P : Pauli) : Type 0 where
@@ -36,6 +36,19 @@ module _ {R : Type 0} where
   Suited Q (projection M p v invnorm) = Paired Q M × (p < Q .n)
   Suited Q (correction P) = Paired Q P
   Suited Q (quarterTurn P) = Paired Q P
+
+-- ---- a Pauli on n qubits, exactly where no row refuses it
+
+pub placed-passed : (Q : Pauli) (n : ℕ) → placedRow Q n ≡ 0 → Admitted Q × (Q .n ≡ n)
+unfolding placedRow
+placed-passed Q n e =
+    let three = row-passed (not (fits Q)) 3 (row (not (eqb (Q .n) n)) 4 0) (lit< tt) e in
+    let four = row-passed (not (eqb (Q .n) n)) 4 0 (lit< tt) (three .1) in
+    (fits-admitted Q (not-false (fits Q) (three .0)), eqb-true (Q .n) n (not-false (eqb (Q .n) n) (four .0)))
+
+pub placed-row : (Q : Pauli) (n : ℕ) → Admitted Q → Q .n ≡ n → placedRow Q n ≡ 0
+unfolding placedRow row
+placed-row Q n a e = rw (admitted-fits Q a, eq-eqb (Q .n) n e)
 
 -- ---- no row refuses exactly where the two suit each other
 

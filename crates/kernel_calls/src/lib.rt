@@ -11,10 +11,10 @@ ghost use mathlib.Core.Path.{_≡_};
 ghost use lib.ListN.{length};
 
 // Zeros, for the lines of a test.
-pub fn buffer() -> [u8; 786432]
-    ensures { λ r. ⌜ 786432 ≡ length r ⌝ }
+pub fn buffer() -> [u8; 1048576]
+    ensures { λ r. ⌜ 1048576 ≡ length r ⌝ }
 {
-    [0; 786432]
+    [0; 1048576]
 }
 
 fn answer(line: &[u8]) {

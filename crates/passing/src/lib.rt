@@ -7,7 +7,7 @@ use activepauli::ActivePauli;
 use steps::Step;
 ghost use mathlib.Core.Path.{_≡_};
 ghost use Rattle.activepauli.specs.Active.{activeOf};
-ghost use Rattle.framelaws.specs.PassRow.{pastCall};
+ghost use Rattle.framelaws.specs.PassRow.{placedRow, pastCall};
 ghost use Rattle.steps.specs.Meaning.{stepOf};
 ghost use Rattle.passing.specs.Answer.{passAnswerOf};
 
@@ -27,4 +27,14 @@ pub fn past(pauli: ActivePauli, step: Step) -> PassAnswer
     let left = suited::carried_step(pauli, step);
     let behind = suited::passed(pauli, step);
     PassAnswer::Past(left, behind)
+}
+
+// Which row refuses a Pauli that is to be on so many qubits: 3, 4, or 0 where none does.
+pub fn placed_row(pauli: ActivePauli, width: usize) -> u8
+    ensures { λ r. ⌜ r ≡ placedRow (activeOf pauli) width ⌝ }
+{
+    if !pauli.is_pauli() {
+        return 3;
+    }
+    rows::row(pauli.nqubits != width, 4)
 }

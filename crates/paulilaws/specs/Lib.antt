@@ -6,4 +6,5 @@ pub mod Support
 pub mod Fitting
 pub mod Frame
 pub mod Exchange
+pub mod MaskWord
 pub mod Printed

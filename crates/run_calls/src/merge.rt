@@ -87,7 +87,7 @@ fn carried(
     answer
 }
 
-fn equal(a: ActivePauli, b: ActivePauli) -> bool
+pub(crate) fn equal(a: ActivePauli, b: ActivePauli) -> bool
     ensures { λ r. ⌜ (r ≡ true) ↔ (activeOf a ≡ activeOf b) ⌝ }
 {
     (a.nqubits == b.nqubits) & (a.phase == b.phase) & (a.x == b.x) & (a.z == b.z)

@@ -17,15 +17,15 @@ pub(crate) fn call(name: &[u8]) -> u8 {
     last
 }
 
-// How many numbers a call takes: check, cuts and start; field; run, and the emulator's step; step; both; carry;
-// merge; passing. 98 where there is no such call.
+// How many numbers a call takes: check, cuts and start; field; run, and the emulator's step; step; both and seeker;
+// carry; merge; passing. 98 where there is no such call.
 pub(crate) fn arity(call: u8) -> usize {
     match call {
         b'k' | b'K' | b's' | b't' => 0,
         b'd' => 1,
         b'n' | b'N' | b'P' => 2,
         b'p' => 3,
-        b'h' | b'H' => 4,
+        b'h' | b'H' | b'r' | b'R' => 4,
         b'y' | b'Y' => 5,
         b'e' | b'E' => 8,
         b'g' => 10,

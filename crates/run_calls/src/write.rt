@@ -175,6 +175,12 @@ fn end(pauli: ActivePauli) {
     write::pauli(pauli);
 }
 
+// The width of a start that was found.
+pub(crate) fn found(width: usize) {
+    word(b"start");
+    write::number(width as u64);
+}
+
 // The end Pauli, and where the output differs from the run; or the refusal, and whether the output is as it was lent.
 pub(crate) fn carry(answer: CarryAnswer, run: &[u8], out: &[u8]) {
     if carried(answer) {
@@ -184,8 +190,8 @@ pub(crate) fn carry(answer: CarryAnswer, run: &[u8], out: &[u8]) {
     }
 }
 
-// Whether the run was carried.
-fn carried(answer: CarryAnswer) -> bool {
+// The end Pauli or the refusal; whether the run was carried.
+pub(crate) fn carried(answer: CarryAnswer) -> bool {
     match answer {
         CarryAnswer::Carried(pauli) => end(pauli),
         CarryAnswer::Refused(row) => {

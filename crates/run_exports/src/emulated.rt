@@ -1,4 +1,4 @@
-// Reading, checking, running, carrying and serving for the emulator, a board of six qubits: a start over six, or a
+// Reading, checking, running, carrying, seeking and serving for the emulator, a board of six qubits: a start over six, or a
 // promotion at six, is refused by 21.
 // The service's ledger counts none of its runs, and is handed back as it was.
 use crate::seen;
@@ -16,7 +16,7 @@ ghost use Rattle.paulilaws.specs.Pauli.{identity};
 ghost use Rattle.amplitudelaws.specs.Lent.{memory};
 ghost use Rattle.framelaws.specs.Caller.{emulator};
 ghost use Rattle.runlaws.specs.Reading.{readAt};
-ghost use Rattle.runlaws.specs.Calls.{checking, running, carrying};
+ghost use Rattle.runlaws.specs.Calls.{checking, running, carrying, seeking};
 ghost use Rattle.runlaws.specs.Ledger as history;
 ghost use Rattle.activepauli.specs.Active.{activeOf};
 ghost use Rattle.checker.specs.Meaning.{surveyFieldsOf};
@@ -67,6 +67,13 @@ pub extern "C" fn naribhush_carry_emulated(
         ⌜ Seen (r .verdict) (activeOf (r .pauli)) (identity 0) (did .answer) × (now (out .exit) ≡ did .lent) ⌝ }
 {
     seen::carried(carrier::carry_emulated(run, pauli, out))
+}
+
+#[no_mangle]
+pub extern "C" fn naribhush_seek_emulated(run: &[u8], end: ActivePauli) -> SeenActivePauli
+    ensures { λ r. ⌜ Seen (r .verdict) (activeOf (r .pauli)) (identity 0) (seeking emulator (now (run .entry)) (activeOf end)) ⌝ }
+{
+    seen::sought(seeker::seek_emulated(run, end))
 }
 
 #[no_mangle]

@@ -25,7 +25,7 @@ ghost use Rattle.paulilaws.specs.Pauli.{identity};
 ghost use Rattle.amplitudelaws.specs.Lent.{memory};
 ghost use Rattle.framelaws.specs.Caller.{service, serviceWithin};
 ghost use Rattle.runlaws.specs.Reading.{readAt};
-ghost use Rattle.runlaws.specs.Calls.{checking, running, carrying};
+ghost use Rattle.runlaws.specs.Calls.{checking, running, carrying, seeking};
 ghost use Rattle.runlaws.specs.Ledger as history;
 ghost use Rattle.activepauli.specs.Active.{activeOf};
 ghost use Rattle.checker.specs.Meaning.{surveyFieldsOf};
@@ -84,6 +84,14 @@ pub extern "C" fn naribhush_carry(run: &[u8], pauli: ActivePauli, out: &mut [u8]
         ⌜ Seen (r .verdict) (activeOf (r .pauli)) (identity 0) (did .answer) × (now (out .exit) ≡ did .lent) ⌝ }
 {
     seen::carried(carrier::carry_run(run, pauli, out))
+}
+
+// Some Pauli on the start qubits whose carrying ends in this one on the last; 25 where there is none.
+#[no_mangle]
+pub extern "C" fn naribhush_seek(run: &[u8], end: ActivePauli) -> SeenActivePauli
+    ensures { λ r. ⌜ Seen (r .verdict) (activeOf (r .pauli)) (identity 0) (seeking service (now (run .entry)) (activeOf end)) ⌝ }
+{
+    seen::sought(seeker::seek_start(run, end))
 }
 
 // The Pauli past one step, which may be any: 3, 4 and 10 as carrying looks at them, 14 where no step has the tag or

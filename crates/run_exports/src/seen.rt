@@ -7,6 +7,7 @@ use kernel_exports::seen::SeenActivePauli;
 use ledger::Ledger;
 use paulitext::TextAnswer;
 use runner::RunAnswer;
+use seeker::SeekAnswer;
 use steps::Read;
 use steps::Step;
 use verdicts::SeenNumber;
@@ -18,6 +19,7 @@ ghost use Rattle.steps.specs.Meaning.{stepOf, readOf};
 ghost use Rattle.checker.specs.Meaning.{surveyFieldsOf, checkAnswerOf};
 ghost use Rattle.runner.specs.Meaning.{runAnswerOf};
 ghost use Rattle.carrier.specs.Meaning.{carryAnswerOf};
+ghost use Rattle.seeker.specs.Meaning.{seekAnswerOf};
 ghost use Rattle.paulitext.specs.Calls.{textAnswerOf};
 ghost use Rattle.verdicts.specs.Verdict.{Seen};
 ghost use Rattle.run_exports.specs.Nothing.{noSurvey, noEnding};
@@ -122,6 +124,21 @@ pub(crate) fn carried(answer: CarryAnswer) -> SeenActivePauli
         },
         CarryAnswer::Refused(row) => kernel_exports::seen::no_pauli(verdicts::refused(row)),
         CarryAnswer::RefusedAt(row, at) => {
+            kernel_exports::seen::no_pauli(verdicts::refused_at(row, at))
+        }
+    }
+}
+
+pub(crate) fn sought(answer: SeekAnswer) -> SeenActivePauli
+    ensures { λ r. ⌜ Seen (r .verdict) (activeOf (r .pauli)) (identity 0) (seekAnswerOf answer) ⌝ }
+{
+    match answer {
+        SeekAnswer::Start(pauli) => SeenActivePauli {
+            verdict: verdicts::accepted(),
+            pauli,
+        },
+        SeekAnswer::Refused(row) => kernel_exports::seen::no_pauli(verdicts::refused(row)),
+        SeekAnswer::RefusedAt(row, at) => {
             kernel_exports::seen::no_pauli(verdicts::refused_at(row, at))
         }
     }

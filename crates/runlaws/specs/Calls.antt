@@ -2,18 +2,21 @@
 use mathlib.Core.Bool.{not, _&&_}
 use mathlib.Core.List.{List, _++_}
 use Prim.Native.Nat.{ℕ}
-use lib.Dec.{ltb, eqb}
+use lib.Dec.{ltb}
 use lib.ListN.{length, drop}
 use Rattle.answers.specs.Answer.{Answer}
 use Rattle.answers.specs.Answer.Answer.{accepted, refused, refusedAt}
-use Rattle.answers.specs.Row.{row}
+use Rattle.answers.specs.Row.{row, first, answered}
 pub use Rattle.answers.specs.Outcome.{Outcome, byRow}
-use Rattle.paulilaws.specs.Pauli.{Pauli, fits}
+use Rattle.paulilaws.specs.Pauli.{Pauli}
 use Rattle.amplitudelaws.specs.Rows.{roomRow}
 use Rattle.amplitudelaws.specs.State.{roomFor, room}
+use Rattle.amplitudelaws.specs.Step.{lastWidth}
 use Rattle.framelaws.specs.Caller.{Caller}
 use Rattle.framelaws.specs.Carrying.{carriedSteps, endPauli}
 use Rattle.framelaws.specs.Memory.{Memory, ran}
+use Rattle.framelaws.specs.PassRow.{placedRow}
+use Rattle.framelaws.specs.Seeking.{isReached, startFor}
 use Rattle.framelaws.specs.Survey.{Survey, survey}
 use Rattle.runlaws.specs.Flags.{flagged}
 use Rattle.runlaws.specs.Run.{Run, mapped, runOf}
@@ -64,7 +67,7 @@ running caller s m = onRun (runOf caller s) m (λ R. byRow (memoryRow (surveyOf 
 
 -- 3: no Pauli, 4: not on the start qubits, 16: an output that is shorter than the run
 unfoldable pub carryingRow : Pauli → ℕ → ℕ → ℕ → ℕ
-carryingRow Q width size room = row (not (fits Q)) 3 (row (not (eqb (Q .n) width)) 4 (row (ltb room size) 16 0))
+carryingRow Q width size room = first (placedRow Q width) (row (ltb room size) 16 0)
 
 -- the run with the carried steps' signs and branches; their fields begin behind the start field's four bytes
 unfoldable pub carriedRun : Pauli → Run → List ℕ → List ℕ
@@ -73,3 +76,19 @@ carriedRun Q R s = flagged 4 (carriedSteps Q (R .steps)) s
 unfoldable pub carrying : Caller → List ℕ → Pauli → List ℕ → Outcome Pauli (List ℕ)
 carrying caller s Q out =
     onRun (runOf caller s) out (λ R. byRow (carryingRow Q (R .width) (length s) (length out)) (endPauli Q (R .steps)) (carriedRun Q R s ++ drop (length s) out) out)
+
+-- ---- seeking
+
+-- what a call answers that is lent nothing to write: a run that is refused, by its own row
+unfoldable pub ofRun : {A : Type 0} → Answer Run → (Run → Answer A) → Answer A
+ofRun (accepted R) f = f R
+ofRun (refused n) f = refused n
+ofRun (refusedAt n at) f = refusedAt n at
+
+-- 3: no Pauli, 4: not on the last qubits; 25, last of all: no Pauli on the start qubits is carried to it
+unfoldable pub seekingRow : Pauli → Run → ℕ
+seekingRow E R = first (placedRow E (lastWidth (R .width) (R .steps))) (row (not (isReached (R .width) (R .steps) E)) 25 0)
+
+-- a Pauli on the start qubits that is carried to E
+unfoldable pub seeking : Caller → List ℕ → Pauli → Answer Pauli
+seeking caller s E = ofRun (runOf caller s) (λ R. answered (seekingRow E R) (startFor (R .width) (R .steps) E))

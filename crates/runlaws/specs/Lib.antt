@@ -16,6 +16,7 @@ pub mod PauliBytes
 pub mod WholeRun
 pub mod RunPieces
 pub mod Going
+pub mod OnStart
 pub mod Outcomes
 pub mod OwnBytes
 pub mod Flagged
@@ -29,6 +30,8 @@ pub mod TwoCorrections
 pub mod OneCarry
 pub mod Undoing
 pub mod Merging
+pub mod StartForEnd
+pub mod Seeking
 pub mod Exact
 pub mod Roomy
 pub mod Numbers

@@ -4,22 +4,24 @@ use mathlib.Core.Bool.{Bool, true, false, not, _&&_}
 use mathlib.Core.List.{List, [], _∷_, _++_}
 use Prim.Native.Nat.{ℕ, zero, suc, _≤_}
 use native.Mathlib.Omega.{arith}
-use lib.Dec.{eqb, ltb, lit<}
+use lib.Dec.{ltb, lit<}
 use lib.Ieee.{Float}
 use lib.ListN.{length, drop}
-use borrow.Author.Tests.{eqb-true, ltb-false, not-false}
+use borrow.Author.Tests.{ltb-false, not-false}
 use Rattle.answers.specs.Answer.{Answer, isAccepted}
 use Rattle.answers.specs.Answer.Answer.{accepted, refused, refusedAt}
-use Rattle.answers.specs.Row.{row, answered, left, refused-accepted, refusedAt-accepted, accepted-row, answered-none, left-none, row-passed}
-use Rattle.paulilaws.specs.Pauli.{Pauli, fits}
-use Rattle.paulilaws.specs.Fitting.{Admitted, fits-admitted, both-left, both-right}
+use Rattle.answers.specs.Row.{row, answered, left, refused-accepted, refusedAt-accepted, accepted-row, answered-none, left-none, row-passed, first-passed}
+use Rattle.paulilaws.specs.Pauli.{Pauli}
+use Rattle.paulilaws.specs.Fitting.{Admitted, both-left, both-right}
 use Rattle.amplitudelaws.specs.Rows.{roomRow}
 use Rattle.amplitudelaws.specs.State.{roomFor, room}
 use Rattle.framelaws.specs.Caller.{Caller}
 use Rattle.framelaws.specs.Allowed.{Allowed}
 use Rattle.framelaws.specs.Carrying.{endPauli}
 use Rattle.framelaws.specs.Memory.{Memory, ran}
+use Rattle.framelaws.specs.PassRow.{placedRow}
 use Rattle.framelaws.specs.Passing.{width-kept}
+use Rattle.framelaws.specs.Suited.{placed-passed}
 use Rattle.amplitudelaws.specs.Step.{Step, widthAfter, lastWidth}
 use Rattle.framelaws.specs.Survey.{Survey}
 use Rattle.framelaws.specs.Surveyed.{survey-width}
@@ -98,7 +100,7 @@ module _ (caller : Caller) (s : List ℕ) (m : Memory) where
 
 -- ---- where an accepted run ends
 
-last-within : (caller : Caller) (n : ℕ) (ts : List (Step Float)) → n ≤ caller .widest → Allowed caller n ts → lastWidth n ts ≤ caller .widest
+pub last-within : (caller : Caller) (n : ℕ) (ts : List (Step Float)) → n ≤ caller .widest → Allowed caller n ts → lastWidth n ts ≤ caller .widest
 unfolding lastWidth
 last-within caller n [] h a = h
 last-within caller n (t ∷ ts) h a = last-within caller (widthAfter n t) ts (width-kept caller n t h (a .1)) (a .2)
@@ -117,11 +119,9 @@ ending-within caller s m E e =
 pub carrying-passed : (Q : Pauli) (width size room : ℕ) → carryingRow Q width size room ≡ 0 → Admitted Q × (Q .n ≡ width) × (size ≤ room)
 unfolding carryingRow
 carrying-passed Q width size room e =
-    let sixteen = row (ltb room size) 16 0 in
-    let a = row-passed (not (fits Q)) 3 (row (not (eqb (Q .n) width)) 4 sixteen) (lit< tt) e in
-    let b = row-passed (not (eqb (Q .n) width)) 4 sixteen (lit< tt) (a .1) in
-    let c = row-passed (ltb room size) 16 0 (lit< tt) (b .1) in
-    (fits-admitted Q (not-false (fits Q) (a .0)), eqb-true (Q .n) width (not-false (eqb (Q .n) width) (b .0)), ltb-false room size (c .0))
+    let rows = first-passed (placedRow Q width) (row (ltb room size) 16 0) e in
+    let placed = placed-passed Q width (rows .0) in
+    (placed .0, placed .1, ltb-false room size (row-passed (ltb room size) 16 0 (lit< tt) (rows .1) .0))
 
 module _ (caller : Caller) (s : List ℕ) (Q : Pauli) (out : List ℕ) where
   abbrev carryRow : Run → ℕ

@@ -5,14 +5,15 @@ use mathlib.Core.List.{List, _++_}
 use Prim.Native.Nat.{ℕ, _≤_}
 use lib.ListN.{length, take, drop}
 use lib.Seq.{take-at}
-use borrow.Author.Tests.{eq-eqb, le-ltb}
+use borrow.Author.Tests.{le-ltb}
 use Rattle.answers.specs.Answer.{isAccepted}
 use Rattle.answers.specs.Answer.Answer.{accepted}
-use Rattle.answers.specs.Row.{row, accepted-value}
+use Rattle.answers.specs.Row.{row, first, accepted-value}
 use Rattle.paulilaws.specs.Pauli.{Pauli}
-use Rattle.paulilaws.specs.Fitting.{Admitted, admitted-fits}
+use Rattle.paulilaws.specs.Fitting.{Admitted}
 use Rattle.framelaws.specs.Caller.{Caller}
 use Rattle.framelaws.specs.Carrying.{carriedSteps, endPauli}
+use Rattle.framelaws.specs.Suited.{placed-row}
 use Rattle.runlaws.specs.Run.{Run, runOf}
 use Rattle.runlaws.specs.Calls.{carryingRow, carriedRun, carrying}
 use Rattle.runlaws.specs.Frame.{sent}
@@ -21,8 +22,8 @@ use Rattle.runlaws.specs.Reread.{carried-length, reread}
 
 -- no row refuses to carry a Pauli through a run of its own width
 pub may-carry : (Q : Pauli) (width size room : ℕ) → Admitted Q → Q .n ≡ width → size ≤ room → carryingRow Q width size room ≡ 0
-unfolding carryingRow row
-may-carry Q width size room f e h = rw (admitted-fits Q f, eq-eqb (Q .n) width e, le-ltb room size h)
+unfolding carryingRow row first
+may-carry Q width size room f e h = rw (placed-row Q width f e, le-ltb room size h)
 
 -- the run that the carried bytes are read as
 abbrev pub carriedOf : Pauli → Run → Run

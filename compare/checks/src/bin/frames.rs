@@ -1,6 +1,6 @@
 //! frames [RUNS] [SEED] [heap]: demand 3 on random runs and on all single steps of few qubits, by the service's calls and,
-//! where the emulator takes the run, by its calls too; that the two callers leave the same state and carry alike; and E11 with a
-//! second Pauli, by each caller that takes the run.
+//! where the emulator takes the run, by its calls too; that the two callers leave the same state and carry alike; and, by each
+//! caller that takes the run, E11 with a second Pauli and E12 with ends that are named.
 //!
 //! Run i throws the dice of SEED + i. Ends with 1 if anything is wrong, or if something that the program is
 //! meant to see was never seen.
@@ -8,15 +8,18 @@
 use checks::callers::{BOTH, Who};
 use checks::case::{self, Arguments};
 use checks::lent::Lender;
-use checks::tally::{Findings, Tally};
-use checks::trials::{random_trial, single_step_trials};
+use checks::patterns::hex;
+use checks::seeking::{self, Asked, Named};
+use checks::tally::{Findings, Tallies, Tally};
+use checks::trials::{random_trial, single_step_trials, single_steps};
 use checks::two_callers::{self, Agreement};
 use checks::two_ways::{Outcome, Trial, compare};
 use checks::{draw, merging};
 use model::carry::{carry_step, takes_product};
 use model::dice::Dice;
-use model::pauli::Pauli;
-use model::run::{Caller, LIMIT, Run, Step};
+use model::pauli::{Pauli, paulis};
+use model::run::{Caller, EMULATOR, LIMIT, Run, Step};
+use model::seek::Ends;
 use std::process::ExitCode;
 
 const RUNS: u64 = 1_000_000;
@@ -70,8 +73,14 @@ struct Both {
 /// Of two corrections that are merged, by each caller.
 #[derive(Default)]
 struct Merges {
-    service: Tally,
-    emulator: Tally,
+    seen: Tallies,
+    wrong: Findings,
+}
+
+/// Of starts that are sought for an end, by each caller.
+#[derive(Default)]
+struct Seeks {
+    seen: Tallies,
     wrong: Findings,
 }
 
@@ -81,6 +90,7 @@ struct All {
     emulator: Seen,
     both: Both,
     merges: Merges,
+    seeks: Seeks,
 }
 
 /// Of runs whose amplitudes are finite throughout, or not so from the start or from some step on.
@@ -244,9 +254,9 @@ impl Merges {
     fn try_one(&mut self, lender: &Lender, dice: &Dice, seed: u64, trial: &Trial) {
         let mut dice = Dice(!dice.0);
         let a = draw::pauli(&mut dice, trial.run.width);
-        for who in BOTH.into_iter().filter(|who| takes(*who, trial)) {
+        for who in takers(&trial.run) {
             match merging::compare(lender, &mut dice, who, trial, a) {
-                Ok(merged) => merging::count(self.tally(who), trial, a, &merged),
+                Ok(merged) => merging::count(self.seen.of(who), trial, a, &merged),
                 Err(what) => {
                     let what = format!("{}: {what}; A: {a:?}, B is Q", who.name());
                     note(&mut self.wrong, seed, &what, trial);
@@ -255,43 +265,89 @@ impl Merges {
         }
     }
 
-    fn tally(&mut self, who: Who) -> &mut Tally {
-        match who {
-            Who::Service => &mut self.service,
-            Who::Emulator => &mut self.emulator,
+    fn print(&self) {
+        println!("two corrections B and A as one, by the service's calls and by the emulator's");
+        self.seen.print(&merging::WANTED);
+    }
+
+    fn missing(&self) -> Vec<&'static str> {
+        self.seen.missing(&merging::WANTED)
+    }
+}
+
+impl Seeks {
+    /// With dice of its own: the other checks draw what they would draw without it. A seek takes as long as many carries, so
+    /// half of the many runs that start on few qubits are left out.
+    fn try_one(&mut self, lender: &Lender, dice: &Dice, seed: u64, run: &Run) {
+        let mut dice = Dice(dice.0.swap_bytes());
+        if run.width <= EMULATOR.widest && dice.flip() {
+            return;
+        }
+        let named = Named::draw(&mut dice, run);
+        self.name(lender, &mut dice, seed, run, &Ends::of(run), &named);
+    }
+
+    /// Every end on the last qubits.
+    fn try_all(&mut self, lender: &Lender, dice: &mut Dice, seed: u64, run: &Run) {
+        let ends = Ends::of(run);
+        for p in paulis(run.survey().width).filter(|p| p.k == 0) {
+            let named = Named::four_phases(p);
+            self.name(lender, dice, seed, run, &ends, &named);
+        }
+    }
+
+    fn name(
+        &mut self,
+        lender: &Lender,
+        dice: &mut Dice,
+        seed: u64,
+        run: &Run,
+        ends: &Ends,
+        named: &Named,
+    ) {
+        for who in takers(run) {
+            let asked = Asked { who, run, ends };
+            match seeking::compare(lender, dice, &asked, named) {
+                Ok(answers) => seeking::count(self.seen.of(who), &asked, named, &answers),
+                Err(what) => {
+                    let what = format!("{}: {what}; run {}", who.name(), hex(&run.bytes()));
+                    self.wrong.note(seed, &what);
+                }
+            }
         }
     }
 
     fn print(&self) {
-        println!("two corrections B and A as one, by the service's calls and by the emulator's");
-        for name in merging::WANTED {
-            let [service, emulator] = [&self.service, &self.emulator].map(|seen| seen.count(name));
-            println!("  {name:46} {service:>9} {emulator:>9}");
-        }
+        println!("starts sought for an end, by the service's calls and by the emulator's");
+        self.seen.print(&seeking::WANTED);
     }
 
     fn missing(&self) -> Vec<&'static str> {
-        let unseen = [&self.service, &self.emulator].map(|seen| seen.missing(&merging::WANTED));
-        unseen.concat()
+        self.seen.missing(&seeking::WANTED)
     }
 }
 
 /// Whether a run, which the service takes, is narrow enough for the caller.
-fn takes(who: Who, trial: &Trial) -> bool {
-    trial.run.survey().greatest <= who.caller().widest
+fn takes(who: Who, run: &Run) -> bool {
+    run.survey().greatest <= who.caller().widest
+}
+
+fn takers(run: &Run) -> impl Iterator<Item = Who> {
+    BOTH.into_iter().filter(|who| takes(*who, run))
 }
 
 impl All {
-    /// By the service; by both; by the emulator where it takes the run; with a second Pauli.
+    /// By the service; by both; by the emulator where it takes the run; with a second Pauli; with ends that are named.
     fn try_one(&mut self, lender: &Lender, dice: &mut Dice, seed: u64, trial: &Trial) {
         self.service
             .try_one(lender, dice, seed, Who::Service, trial);
         self.both.try_one(lender, dice, seed, trial);
-        if takes(Who::Emulator, trial) {
+        if takes(Who::Emulator, &trial.run) {
             self.emulator
                 .try_one(lender, dice, seed, Who::Emulator, trial);
         }
         self.merges.try_one(lender, dice, seed, trial);
+        self.seeks.try_one(lender, dice, seed, &trial.run);
     }
 
     fn print(&self) {
@@ -299,17 +355,20 @@ impl All {
         self.emulator.print(Who::Emulator);
         self.both.print();
         self.merges.print();
+        self.seeks.print();
     }
 
     fn wrong(&self) -> u64 {
-        self.service.wrong.0 + self.emulator.wrong.0 + self.both.wrong.0 + self.merges.wrong.0
+        let callers = self.service.wrong.0 + self.emulator.wrong.0 + self.both.wrong.0;
+        callers + self.merges.wrong.0 + self.seeks.wrong.0
     }
 
     fn missing(&self) -> Vec<&'static str> {
         let service = self.service.missing(Who::Service);
         let emulator = self.emulator.missing(Who::Emulator);
-        let rest = [self.both.missing(), self.merges.missing()].concat();
-        [service, emulator, rest].concat()
+        let both = self.both.missing();
+        let rest = [self.merges.missing(), self.seeks.missing()];
+        [service, emulator, both, rest.concat()].concat()
     }
 }
 
@@ -372,6 +431,21 @@ fn all_single_steps(seen: &mut All, lender: &Lender, seed: u64) -> u64 {
     count
 }
 
+/// Every end named of every run of a single step at widths 0 to 2.
+fn all_ends_of_single_steps(seen: &mut Seeks, lender: &Lender, seed: u64) -> u64 {
+    let mut dice = Dice(seed);
+    let mut count = 0;
+    for width in 0..=2 {
+        for step in single_steps(&mut dice, width) {
+            let steps = vec![step];
+            let run = Run { width, steps };
+            seen.try_all(lender, &mut dice, seed, &run);
+            count += 1;
+        }
+    }
+    count
+}
+
 fn main() -> ExitCode {
     let Arguments { count, seed, heap } = Arguments::read(RUNS, SEED);
     case::name_faults();
@@ -380,6 +454,7 @@ fn main() -> ExitCode {
 
     case::begin(seed);
     let single = all_single_steps(&mut seen, &lender, seed);
+    let named = all_ends_of_single_steps(&mut seen.seeks, &lender, seed);
     for seed in (0..count).map(|at| seed.wrapping_add(at)) {
         case::begin(seed);
         let mut dice = Dice(seed);
@@ -387,7 +462,9 @@ fn main() -> ExitCode {
         seen.try_one(&lender, &mut dice, seed, &trial);
     }
 
-    println!("{count} random runs from seed {seed}, and {single} runs of a single step");
+    println!(
+        "{count} random runs from seed {seed}, {single} runs of a single step, and {named} of one with every end named"
+    );
     seen.print();
     let missing = seen.missing();
     println!("wrong: {}; never seen: {missing:?}", seen.wrong());

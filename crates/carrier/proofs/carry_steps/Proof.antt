@@ -9,10 +9,10 @@ use Rattle.passing.specs.Accepted.{past-is, past-never}
 use Rattle.runlaws.specs.Flags.{fieldSize, flagged}
 use Rattle.runlaws.specs.Flagged.{flag-length, carried-size}
 use Rattle.runlaws.specs.Going.{Gone, going-step}
+use Rattle.runlaws.specs.OnStart.{runIn}
 use Rattle.callers.specs.Meaning.{callerOf}
 use Rattle.steps.proofs.Ended.{none-left}
 use Rattle.steps.specs.Meaning.{cursorOf, stepOf, readOf}
-use Rattle.carrier.specs.Ready.{runIn}
 use Rattle.carrier.proofs.Turn.{Carrying, outset, step-room, turn, all-passed}
 use borrow.Author.Needs.{needs}
 use Rattle.carrier.proofs.carry_steps.Statement.{statement}

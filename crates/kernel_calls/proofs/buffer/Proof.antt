@@ -6,7 +6,7 @@ use Rattle.kernel_calls.proofs.buffer.Statement.{statement}
 use Rattle.kernel_calls.proofs.buffer.Tie as tie
 
 returns : tie.Need-returns
-returns c = sym (length-replicate {A = ℕ} 786432 0)
+returns c = sym (length-replicate {A = ℕ} 1048576 0)
 
 pub buffer-spec : {M : Type 1} → statement M
 buffer-spec = tie.close (tie.spec returns)

@@ -1,0 +1,5 @@
+pub mod OneWord
+pub mod Passing
+pub mod Masks
+pub mod Written
+pub mod Answered

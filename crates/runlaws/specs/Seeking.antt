@@ -7,11 +7,11 @@ use mathlib.Core.Logic.{_⊎_, inl, inr}
 use mathlib.Core.Option.{some}
 use Prim.Native.Nat.{ℕ, _≤_}
 use native.Mathlib.Omega.{arith}
-use lib.Dec.{lit<, lit≤}
-use borrow.Author.Tests.{ne-eqb, not-false}
+use lib.Dec.{lit≤}
+use borrow.Author.Tests.{ne-eqb}
 use Rattle.answers.specs.Answer.{Answer, isAccepted}
 use Rattle.answers.specs.Answer.Answer.{accepted, refused, refusedAt}
-use Rattle.answers.specs.Row.{row, first, answered, accepted-row, accepted-same, answered-none, first-passed, row-passed, refused-accepted, refusedAt-accepted}
+use Rattle.answers.specs.Row.{row, first, answered, accepted-row, accepted-same, answered-none, first-passed, refused-accepted, refusedAt-accepted}
 use Rattle.paulilaws.specs.Pauli.{Pauli, mostQubits, fits}
 use Rattle.paulilaws.specs.Fitting.{Admitted, fits-admitted, admitted-fits}
 use Rattle.amplitudelaws.specs.Step.{lastWidth}
@@ -52,12 +52,15 @@ row-unreached : (E : Pauli) (R : Run) → placedRow E (lastWidth (R .width) (R .
 unfolding seekingRow first row
 row-unreached E R placed reached = rw (placed, reached)
 
-row-passed-by : (E : Pauli) (R : Run) → seekingRow E R ≡ 0 → (placedRow E (lastWidth (R .width) (R .steps)) ≡ 0) × (isReached (R .width) (R .steps) E ≡ true)
+reached-row : (t : Bool) → row (not t) 25 0 ≡ 0 → t ≡ true
+unfolding row
+reached-row true e = refl
+reached-row false e = absurd (omega (arith, e))
+
+-- Which of the rows stands first plays no part here: the claims on the rows, below, say it.
+rows-passed : (E : Pauli) (R : Run) → seekingRow E R ≡ 0 → (placedRow E (lastWidth (R .width) (R .steps)) ≡ 0) × (isReached (R .width) (R .steps) E ≡ true)
 unfolding seekingRow
-row-passed-by E R e =
-    let reached : Bool = isReached (R .width) (R .steps) E in
-    let rows = first-passed (placedRow E (lastWidth (R .width) (R .steps))) (row (not reached) 25 0) e in
-    (rows .0, not-false reached (row-passed (not reached) 25 0 (lit< tt) (rows .1) .0))
+rows-passed E R e = let rows = first-passed _ _ e in (search rows, search (rows, reached-row))
 
 module _ (caller : Caller) (narrow : caller .widest ≤ mostQubits) (s : List ℕ) where
   -- ---- of a run that reads as R
@@ -73,7 +76,7 @@ module _ (caller : Caller) (narrow : caller .widest ≤ mostQubits) (s : List �
     serves : (E : Pauli) → seekingRow E R ≡ 0 → StartsFor caller s E (found E)
     serves E none =
         let known = run-allowed caller s R read in
-        let rows = row-passed-by E R none in
+        let rows = rows-passed E R none in
         let placed = placed-passed E (lastWidth (R .width) (R .steps)) (rows .0) in
         let start = start-found caller (R .width) (R .steps) (omega (arith, known .width, narrow)) (known .allowed) (known .width) E (placed .0 .fitting) (placed .1) (rows .1) in
         record {

@@ -176,7 +176,8 @@ fn carried_there(
     start: Pauli,
     end: Pauli,
 ) -> Check<()> {
-    let before = filling_bytes(dice, lent_run.len());
+    let past = dice.pick(&[0, 0, 1, 100]);
+    let before = filling_bytes(dice, lent_run.len() + past);
     let mut out = lender.lend(dice, &before);
     let carried = asked.who.carry(lent_run, active(start), &mut out);
     match (serves(asked.run, start, end), carried == Ok(active(end))) {

@@ -16,7 +16,7 @@ use Rattle.bitlaws.specs.Elimination.{firstWith, cleared, wordsAfter, wo
 use Rattle.bitlaws.specs.Order.{last-or-before}
 use Rattle.bitlaws.specs.Xor.{xor-comm, xor-assoc, xor-self, xor-swap}
 
--- e is o and some of the words
+-- e is o xor some of the words
 abbrev pub Reach : ℕ → List ℕ → ℕ → Type 0
 Reach o [] e = o ≡ e
 Reach o (k ∷ ks) e = Reach o ks e ⊎ Reach (bitXor o k) ks e

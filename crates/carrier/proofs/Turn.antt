@@ -11,7 +11,7 @@ use Rattle.framelaws.specs.Caller.{Caller}
 use Rattle.framelaws.specs.Carrying.{carriedStep, passed, carriedSteps, endPauli}
 use Rattle.runlaws.specs.Flags.{fieldSize, flagAt, flagged}
 use Rattle.runlaws.specs.Flagged.{flag-length, carried-size}
-use Rattle.runlaws.specs.Going.{Going, going-outset, Gone}
+use Rattle.runlaws.specs.Going.{Gone, Passing, passing-outset, passing-step, all-passed}
 use Rattle.runlaws.specs.Reading.{Cursor}
 use Rattle.runlaws.specs.OnStart.{runIn}
 use Rattle.carrier.specs.Ready.{Ready}
@@ -19,8 +19,7 @@ use Rattle.carrier.specs.Ready.{Ready}
 -- At a cursor, with the Pauli and the output as they are there: the steps that are left take them to the end Pauli and to all flags.
 pub record Carrying (caller : Caller) (s : List ℕ) (last : Pauli) (all : List ℕ) (c : Cursor) (Q : Pauli) (out : List ℕ) : Type 0 where
   pub steps : List (Step Float)
-  pub going : Going caller s c Q steps
-  pub ends : endPauli Q steps ≡ last
+  pub passing : Passing caller s last c Q steps
   pub writes : flagged (c .at) (carriedSteps Q steps) out ≡ all
   pub room : length s ≤ length out
 
@@ -28,13 +27,8 @@ pub record Carrying (caller : Caller) (s : List ℕ) (last : Pauli) (all : List 
 pub outset : (caller : Caller) (s : List ℕ) (Q : Pauli) (out : List ℕ) → Ready caller s Q out
     → let steps = runIn caller s .steps in
     Carrying caller s (endPauli Q steps) (flagged 4 (carriedSteps Q steps) out) (record { at = 4; width = Q .n }) Q out
-outset caller s Q out r = record {
-  steps = runIn caller s .steps;
-  going = going-outset caller s (runIn caller s) Q (r .begins .read) (r .begins .admitted) (r .begins .width);
-  ends = refl;
-  writes = refl;
-  room = r .room;
-}
+outset caller s Q out r =
+    record { steps = runIn caller s .steps; passing = passing-outset caller s Q (r .begins); writes = refl; room = r .room }
 
 module _ {caller : Caller} {s : List ℕ} {last : Pauli} {all : List ℕ} {c : Cursor} {Q : Pauli} {out : List ℕ}
     (w : Carrying caller s last all c Q out) where
@@ -44,14 +38,13 @@ module _ {caller : Caller} {s : List ℕ} {last : Pauli} {all : List ℕ} {c : C
     step-room = omega (arith, g .read .next, g .read .inside, w .room)
 
     turned : Carrying caller s last all d (passed Q t) (flagAt (c .at) (carriedStep Q t) out)
-    unfolding endPauli carriedSteps flagged
+    unfolding carriedSteps flagged
     turned =
         let one = flagAt (c .at) (carriedStep Q t) out in
         let next : d .at ≡ c .at + fieldSize (carriedStep Q t) = omega (arith, carried-size Q t, g .read .next) in
         record {
           steps = g .after;
-          going = g .going;
-          ends = ap (endPauli Q) (sym (g .steps-are)) ∙ w .ends;
+          passing = passing-step (w .passing) g;
           writes = ap (λ (n : ℕ). flagged n (carriedSteps (passed Q t) (g .after)) one) next
               ∙ ap (λ (ts : List (Step Float)). flagged (c .at) (carriedSteps Q ts) out) (sym (g .steps-are))
               ∙ w .writes;
@@ -62,7 +55,7 @@ module _ {caller : Caller} {s : List ℕ} {last : Pauli} {all : List ℕ} {c : C
         → Carrying caller s last all d Q' out'
     turn t' Q' out' is passes writes = rw (writes, is, passes) turned
 
-  pub all-passed : w .steps ≡ [] → (Q ≡ last) × (out ≡ all)
-  unfolding endPauli carriedSteps flagged
-  all-passed e =
-      (ap (endPauli Q) (sym e) ∙ w .ends, ap (λ (ts : List (Step Float)). flagged (c .at) (carriedSteps Q ts) out) (sym e) ∙ w .writes)
+  pub all-written : w .steps ≡ [] → (Q ≡ last) × (out ≡ all)
+  unfolding carriedSteps flagged
+  all-written e =
+      (all-passed (w .passing) e, ap (λ (ts : List (Step Float)). flagged (c .at) (carriedSteps Q ts) out) (sym e) ∙ w .writes)

@@ -1,13 +1,12 @@
 -- Starts for ends, by example, each worked by hand: widths 0 at either end, a start that is the only one and one of several, ends that have none, the rows in their
 -- order, both callers. And closed instances of every claim of the theorem on them, on the frame theorem's run with every kind of step.
 use mathlib.Core.Path.{_≡_, refl, ap}
-use mathlib.Core.Bool.{true}
+use mathlib.Core.Bool.{true, false}
 use mathlib.Core.List.{List, []}
 use mathlib.Core.Logic.{_⊎_}
 use mathlib.Core.Option.{some}
-use Prim.Native.Nat.{ℕ}
+use Prim.Native.Nat.{ℕ, _≤_}
 use native.Mathlib.Nat.{le-refl}
-use native.Mathlib.Omega.{arith}
 use lib.Count.{ones, onesIn}
 use lib.Dec.{lit≤}
 use lib.Ieee.{ofBits, neg, le}
@@ -31,7 +30,7 @@ use Rattle.framelaws.specs.Rows.{stepRow, rotationStepRow, promotionStepRow, pr
 use Rattle.framelaws.specs.Seeking.{image, withImage, remainder, isReached, withPhaseFor, startFor}
 use Rattle.framelaws.specs.Survey.{Survey, mixedAmplitudes, surveyed, surveyFrom, survey}
 use Rattle.runlaws.specs.Bytes.{number, floatAt, pauliAt}
-use Rattle.runlaws.specs.Calls.{Outcome, surveyOf, checking, carrying, ofRun, seekingRow, seeking}
+use Rattle.runlaws.specs.Calls.{Outcome, surveyOf, checking, carrying, ofRun, seekingRow, seeking, onRun, carryingRow}
 use Rattle.runlaws.specs.Field.{bodyLength, isWhole, fieldAt}
 use Rattle.runlaws.specs.Reading.{decoded, unless, judgedBy, judged, readField, readAt}
 use Rattle.runlaws.specs.Run.{mapped, ended, follow, walk, startWidth, begun, runOf}
@@ -74,6 +73,10 @@ paired = runFrom 2 (bytes.projection 0 3 0 0 0)
 abbrev grown : List ℕ
 grown = runFrom 0 (λ rest. bytes.promotion (bytes.promotion rest))
 
+-- Y is carried to it through every kind of step
+abbrev iI : Pauli
+iI = one 1 0 0
+
 record ByHand : Type 0 where
   -- each Pauli is its own start, phase included; on no qubits too
   ix-alone : seeking service (alone 1) (one 1 1 0) ≡ accepted (one 1 1 0)
@@ -96,6 +99,9 @@ record ByHand : Type 0 where
   -- from no qubits to two
   phase-grown : seeking service grown (two 3 0 0) ≡ accepted (phase 3)
   z-grown : seeking service grown (two 0 0 1) ≡ refused 25
+  -- through a run with every kind of step, whose last qubit is a new one
+  i-through-every-kind : seeking service run iI ≡ accepted iI
+  x-through-every-kind : seeking service run (one 0 1 0) ≡ refused 25
   -- the rows: the run's own before the end's, 3 before 4, 4 before 25, each against the last width
   run-before-three : seeking service [] (one 4 0 0) ≡ refusedAt 14 0
   three-before-four : seeking service promoted (one 4 0 0) ≡ refused 3
@@ -107,7 +113,7 @@ record ByHand : Type 0 where
   over-six : seeking emulator (alone 7) (phase 0) ≡ refusedAt 21 0
 
 by-hand : ByHand
-unfolding seeking ofRun seekingRow placedRow isReached startFor withPhaseFor remainder withImage image maskWord withMasks firstWith cleared wordsAfter wordAfter wordsOf lastWidth runOf begun startWidth mapped walk follow ended readAt readField judged judgedBy unless decoded fieldAt isWhole bodyLength number floatAt pauliAt fits hermitian coefficient ys passed flipped anti product deciding meets absorbed widened turnedBy turnedPast endPauli raised dropped dropBit widthAfter stepRow promotionStepRow projectionStepRow measurementRow hermitianRow widthRow unitRow promotedWidthRow pivotRow pivotMask inUnit row first answered le neg ofBits digit overlap parity ones onesIn
+unfolding seeking ofRun onRun seekingRow placedRow isReached startFor withPhaseFor remainder withImage image maskWord withMasks firstWith cleared wordsAfter wordAfter wordsOf lastWidth runOf begun startWidth mapped walk follow ended readAt readField judged judgedBy unless decoded fieldAt isWhole bodyLength number floatAt pauliAt fits hermitian coefficient ys passed flipped anti product deciding meets absorbed widened turnedBy turnedPast endPauli raised dropped dropBit widthAfter stepRow rotationStepRow promotionStepRow projectionStepRow rotationKernelRow measurementRow hermitianRow widthRow unitRow promotedWidthRow pivotRow pivotMask inUnit row first answered le neg ofBits digit overlap parity ones onesIn
 by-hand = record {
   ix-alone = refl;
   phase-alone = refl;
@@ -123,6 +129,8 @@ by-hand = record {
   z-paired = refl;
   phase-grown = refl;
   z-grown = refl;
+  i-through-every-kind = refl;
+  x-through-every-kind = refl;
   run-before-three = refl;
   three-before-four = refl;
   four-before-25 = refl;
@@ -132,39 +140,36 @@ by-hand = record {
   over-six = refl;
 }
 
+-- Carrying's rows are made of the same: 3 and 4 stand before 16, of an output without room.
+record Carried : Type 0 where
+  three-before-sixteen : carrying service promoted (one 4 0 0) [] .answer ≡ refused 3
+  four-before-sixteen : carrying service promoted (two 0 0 0) [] .answer ≡ refused 4
+
+carried-rows : Carried
+unfolding carrying onRun carryingRow placedRow runOf begun startWidth mapped walk follow ended readAt readField judged judgedBy unless decoded fieldAt isWhole bodyLength number floatAt pauliAt fits hermitian coefficient ys widthAfter stepRow promotionStepRow unitRow promotedWidthRow inUnit row first answered le neg ofBits
+carried-rows = record { three-before-sixteen = refl; four-before-sixteen = refl }
+
 -- ---- the theorem's claims, each used: through a run with every kind of step, whose last qubit is a new one
 
--- Y is carried to i, and i I is found for it
-abbrev iI : Pauli
-iI = one 1 0 0
-
-found : seeking service run iI ≡ accepted iI
-unfolding seeking ofRun seekingRow placedRow isReached startFor withPhaseFor remainder withImage image maskWord withMasks firstWith cleared wordsAfter wordAfter wordsOf lastWidth runOf begun startWidth mapped walk follow ended readAt readField judged judgedBy unless decoded fieldAt isWhole bodyLength number floatAt pauliAt fits hermitian coefficient ys passed flipped anti product deciding meets absorbed widened turnedBy turnedPast endPauli raised dropped dropBit widthAfter stepRow rotationStepRow promotionStepRow projectionStepRow rotationKernelRow measurementRow hermitianRow widthRow unitRow promotedWidthRow pivotRow pivotMask inUnit row first answered le neg ofBits digit overlap parity ones onesIn
-found = refl
-
 serves : StartsFor service run iI iI
-serves = start-for-end-at-the-service .answers run iI iI found
+serves = start-for-end-at-the-service .answers run iI iI (by-hand .i-through-every-kind)
 
 -- on the start field's one qubit; carried into an output with no byte to spare
 record Serves : Type 0 where
   pauli : fits iI ≡ true
   start : startWidth (fieldAt run 0) ≡ some 1
-  ends : carrying service run iI run .answer ≡ accepted iI
+  ends : (out : List ℕ) → length run ≤ length out → carrying service run iI out .answer ≡ accepted iI
 
 served : Serves
-served = record { pauli = serves .pauli; start = serves .start; ends = serves .ends run (lit≤ tt) }
+served = record { pauli = serves .pauli; start = serves .start; ends = serves .ends }
 
 -- so of every run, into an output of its own length
 always : (s : List ℕ) (E Q : Pauli) → seeking service s E ≡ accepted Q → carrying service s Q s .answer ≡ accepted E
 always s E Q e = start-for-end-at-the-service .answers s E Q e .ends s (le-refl (length s))
 
 -- nothing is carried to X
-none : seeking service run (one 0 1 0) ≡ refused 25
-unfolding seeking ofRun seekingRow placedRow isReached startFor withPhaseFor remainder withImage image maskWord withMasks firstWith cleared wordsAfter wordAfter wordsOf lastWidth runOf begun startWidth mapped walk follow ended readAt readField judged judgedBy unless decoded fieldAt isWhole bodyLength number floatAt pauliAt fits hermitian coefficient ys passed flipped anti product deciding meets absorbed widened turnedBy turnedPast endPauli raised dropped dropBit widthAfter stepRow rotationStepRow promotionStepRow projectionStepRow rotationKernelRow measurementRow hermitianRow widthRow unitRow promotedWidthRow pivotRow pivotMask inUnit row first answered le neg ofBits digit overlap parity ones onesIn
-none = refl
-
 nobody : (Q : Pauli) (out : List ℕ) → carrying service run Q out .answer ≡ accepted (one 0 1 0) → ⊥
-nobody = start-for-end-at-the-service .refuses run (one 0 1 0) none
+nobody = start-for-end-at-the-service .refuses run (one 0 1 0) (by-hand .x-through-every-kind)
 
 -- by what Y is carried to, without computing what is answered
 some-start : SomeStart service run iI
@@ -181,13 +186,11 @@ checks : checking service run ≡ accepted surveyed-run
 unfolding checking surveyOf survey surveyFrom surveyed mixedAmplitudes runOf begun startWidth mapped walk follow ended readAt readField judged judgedBy unless decoded fieldAt isWhole bodyLength number floatAt pauliAt fits hermitian coefficient ys widthAfter stepRow rotationStepRow promotionStepRow projectionStepRow rotationKernelRow measurementRow hermitianRow widthRow unitRow promotedWidthRow pivotRow pivotMask inUnit row first answered le neg ofBits digit overlap parity ones onesIn
 checks = refl
 
-unfit : seeking service run (one 4 0 0) ≡ refused 3
-unfolding fits
-unfit = start-for-end-at-the-service .three run (one 4 0 0) surveyed-run checks refl
+unfit : (E : Pauli) → fits E ≡ false → seeking service run E ≡ refused 3
+unfit E bad = start-for-end-at-the-service .three run E surveyed-run checks bad
 
-misplaced : seeking service run (two 0 0 0) ≡ refused 4
-unfolding fits
-misplaced = start-for-end-at-the-service .four run (two 0 0 0) surveyed-run checks refl (λ e. omega (arith, e))
+misplaced : (E : Pauli) → fits E ≡ true → (E .n ≡ 1 → ⊥) → seeking service run E ≡ refused 4
+misplaced E fit other = start-for-end-at-the-service .four run E surveyed-run checks fit other
 
 -- whatever Pauli is named on one qubit
 either : (k x z : ℕ) → fits (one k x z) ≡ true → SomeStart service run (one k x z) ⊎ ((seeking service run (one k x z) ≡ refused 25) × NoStart service run (one k x z))
@@ -205,6 +208,23 @@ nobody-on-the-board = start-for-end-at-the-emulator .refuses joined (two 0 2 0) 
 over : (E : Pauli) → seeking emulator (alone 7) E ≡ refusedAt 21 0
 unfolding checking surveyOf mapped runOf begun startWidth fieldAt isWhole bodyLength number
 over E = start-for-end-at-the-emulator .run-first (alone 7) E 21 0 refl
+
+-- of any run that is refused
+run-own : (s : List ℕ) (E : Pauli) (r at : ℕ) → checking emulator s ≡ refusedAt r at → seeking emulator s E ≡ refusedAt r at
+run-own = start-for-end-at-the-emulator .run-first
+
+some-on-the-board : SomeStart emulator joined (two 3 3 1)
+some-on-the-board = start-for-end-at-the-emulator .finds joined (two 3 3 1) (one 0 0 1) joined on-the-board
+
+unfit-on-the-board : (E : Pauli) (v : Survey) → checking emulator joined ≡ accepted v → fits E ≡ false → seeking emulator joined E ≡ refused 3
+unfit-on-the-board = start-for-end-at-the-emulator .three joined
+
+misplaced-on-the-board : (E : Pauli) (v : Survey) → checking emulator joined ≡ accepted v → fits E ≡ true → (E .n ≡ v .width → ⊥) → seeking emulator joined E ≡ refused 4
+misplaced-on-the-board = start-for-end-at-the-emulator .four joined
+
+either-on-the-board : (E : Pauli) (v : Survey) → checking emulator joined ≡ accepted v → fits E ≡ true → E .n ≡ v .width
+    → SomeStart emulator joined E ⊎ ((seeking emulator joined E ≡ refused 25) × NoStart emulator joined E)
+either-on-the-board = start-for-end-at-the-emulator .last joined
 
 -- the run that both hold: the same start from both
 by-both : (E : Pauli) → seeking emulator run E ≡ seeking service run E

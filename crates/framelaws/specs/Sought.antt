@@ -126,15 +126,10 @@ module _ (caller : Caller) (n : ℕ) (ts : List (Step Float)) (narrow : n ≤ mo
         let end = fitting-end caller n Q ts within allowed (masks-admitted n 0 c narrow (omega arith) .fitting) (masks-width n 0 c) in
         let masks : Masked P E
         = masked-word m P E (rw (end .width) at (end .fitting .xs)) (rw (end .width) at (end .fitting .zs)) (rw width at (fits .xs)) (rw width at (fits .zs)) e in
-        let up : ℕ = E .k + 3 * P .k in
-        let turned : withMasks n (up % 4) c ≡ raised up Q = unfold withMasks raised in same refl (ap (λ (a : ℕ). a % 4) (sym (zero-add up))) refl refl in
-        ap (λ (A : Pauli). endPauli A ts) turned ∙ end-raised up Q ts ∙ made-up P masks (end .width ∙ sym width)
-      where
-        phase : (p e : ℕ) → e ≤ 3 → (p + (e + 3 * p)) % 4 ≡ e
-        phase p e h = omega arith
-
-        made-up : (P : Pauli) → Masked P E → P .n ≡ E .n → raised (E .k + 3 * P .k) P ≡ E
-        made-up P masks width = unfold raised in same width (phase (P .k) (E .k) (fits .phase)) (masks .xs) (masks .zs)
+        let turned : (up : ℕ) → withMasks n (up % 4) c ≡ raised up Q = λ up. unfold withMasks raised in same refl (ap (λ (a : ℕ). a % 4) (sym (zero-add up))) refl refl in
+        let made-up : (up : ℕ) → (P .k + up) % 4 ≡ E .k → endPauli (withMasks n (up % 4) c) ts ≡ E
+        = λ up phase. ap (λ (A : Pauli). endPauli A ts) (turned up) ∙ end-raised up Q ts ∙ (unfold raised in same (end .width ∙ sym width) phase (masks .xs) (masks .zs)) in
+        made-up _ (omega (arith, fits .phase))
 
     pub record Start (Q : Pauli) : Type 0 where
       pub admitted : Admitted Q

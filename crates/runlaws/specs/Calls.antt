@@ -79,11 +79,9 @@ carrying caller s Q out =
 
 -- ---- seeking
 
--- what a call answers that is lent nothing to write: a run that is refused, by its own row
+-- what a call answers that is lent nothing to write
 unfoldable pub ofRun : {A : Type 0} → Answer Run → (Run → Answer A) → Answer A
-ofRun (accepted R) f = f R
-ofRun (refused n) f = refused n
-ofRun (refusedAt n at) f = refusedAt n at
+ofRun read f = onRun {B = Unit} read tt (λ R. record { answer = f R; lent = tt }) .answer
 
 -- 3: no Pauli, 4: not on the last qubits; 25, last of all: no Pauli on the start qubits is carried to it
 unfoldable pub seekingRow : Pauli → Run → ℕ

@@ -1,6 +1,6 @@
 -- What a loop knows that walks an accepted run with a Pauli. Each such loop adds its own equation to it.
 use mathlib.Core.Path.{_≡_, refl, sym, ap, _∙_, subst}
-use mathlib.Core.List.{List, _∷_}
+use mathlib.Core.List.{List, [], _∷_}
 use Prim.Native.Nat.{ℕ, _-_, _<_}
 use native.Mathlib.Omega.{arith}
 use lib.Ieee.{Float}
@@ -10,13 +10,14 @@ use Rattle.paulilaws.specs.Pauli.{Pauli}
 use Rattle.paulilaws.specs.Fitting.{Admitted}
 use Rattle.amplitudelaws.specs.Step.{Step, widthAfter}
 use Rattle.framelaws.specs.Caller.{Caller}
-use Rattle.framelaws.specs.Carrying.{passed}
+use Rattle.framelaws.specs.Carrying.{passed, endPauli}
 use Rattle.framelaws.specs.PassRow.{passRow}
 use Rattle.framelaws.specs.Suited.{passed-width, passed-admitted, step-passes}
 use Rattle.runlaws.specs.Reading.{Cursor, readAt}
 use Rattle.runlaws.specs.Reading.Read.{stepRead}
 use Rattle.runlaws.specs.Run.{Run, walk, runOf}
 use Rattle.runlaws.specs.Fields.{StepRead, step-read, size-ge}
+use Rattle.runlaws.specs.OnStart.{runIn, OnStart}
 use Rattle.runlaws.specs.Walk.{Left, left-outset, accepted-step}
 use Rattle.runlaws.specs.WholeRun.{run-allowed}
 
@@ -66,3 +67,24 @@ going-step {caller} {s} {c} {Q} g t d e =
       };
       less = omega (arith, r .next, r .inside, size-ge t);
     }
+
+-- ---- up to the end: with the Pauli as it is at a cursor, the steps that are left take it to `last`
+
+pub record Passing (caller : Caller) (s : List ℕ) (last : Pauli) (c : Cursor) (Q : Pauli) (steps : List (Step Float)) : Type 0 where
+  pub going : Going caller s c Q steps
+  pub ends : endPauli Q steps ≡ last
+
+-- before the first step
+pub passing-outset : (caller : Caller) (s : List ℕ) (Q : Pauli) → OnStart caller s Q
+    → let steps = runIn caller s .steps in Passing caller s (endPauli Q steps) (record { at = 4; width = Q .n }) Q steps
+passing-outset caller s Q b =
+    record { going = going-outset caller s (runIn caller s) Q (b .read) (b .admitted) (b .width); ends = refl }
+
+module _ {caller : Caller} {s : List ℕ} {last : Pauli} {c : Cursor} {Q : Pauli} {steps : List (Step Float)} (w : Passing caller s last c Q steps) where
+  pub passing-step : {t : Step Float} {d : Cursor} (g : Gone caller s c Q steps t d) → Passing caller s last d (passed Q t) (g .after)
+  unfolding endPauli
+  passing-step g = record { going = g .going; ends = ap (endPauli Q) (sym (g .steps-are)) ∙ w .ends }
+
+  pub all-passed : steps ≡ [] → Q ≡ last
+  unfolding endPauli
+  all-passed e = ap (endPauli Q) (sym e) ∙ w .ends

@@ -15,8 +15,8 @@ pub mod Pieces
 pub mod PauliBytes
 pub mod WholeRun
 pub mod RunPieces
-pub mod Going
 pub mod OnStart
+pub mod Going
 pub mod Outcomes
 pub mod OwnBytes
 pub mod Flagged

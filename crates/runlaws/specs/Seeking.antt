@@ -1,4 +1,4 @@
--- Which start gives this end, proved: StartForEnd.antt states it. For any caller whose runs start on at most 256 qubits, as many as a Pauli may have, and so for the
+-- Which start gives this end, proved: StartForEnd.antt states it. For any caller whose states have at most 256 qubits, as many as a Pauli may have, and so for the
 -- service and for the emulator.
 use mathlib.Core.Path.{_≡_, refl, sym, ap, _∙_, subst}
 use mathlib.Core.Bool.{Bool, true, false, not}
@@ -25,7 +25,7 @@ use Rattle.framelaws.specs.Suited.{placed-passed, placed-row}
 use Rattle.framelaws.specs.Survey.{Survey}
 use Rattle.framelaws.specs.Surveyed.{survey-width}
 use Rattle.runlaws.specs.Run.{Run, runOf}
-use Rattle.runlaws.specs.Calls.{surveyOf, checking, carrying, ofRun, seekingRow, seeking}
+use Rattle.runlaws.specs.Calls.{onRun, surveyOf, checking, carrying, ofRun, seekingRow, seeking}
 use Rattle.runlaws.specs.Mapped.{From, mapped-accepted, mapped-refused}
 use Rattle.runlaws.specs.Sent.{sent-by, sent-accepted}
 use Rattle.runlaws.specs.StartForEnd.{StartsFor, NoStart, SomeStart, StartForEnd}
@@ -38,12 +38,24 @@ record ReadFor {A : Type 0} (read : Answer Run) (f : Run → Answer A) (a : A) :
   is : f run ≡ accepted a
 
 read-for : {A : Type 0} (read : Answer Run) (f : Run → Answer A) (a : A) → ofRun read f ≡ accepted a → ReadFor read f a
-unfolding ofRun
+unfolding ofRun onRun
 read-for (accepted R) f a e = record { run = R; was = refl; is = e }
 read-for (refused n) f a e = absurd (refused-accepted e)
 read-for (refusedAt n at) f a e = absurd (refusedAt-accepted e)
 
--- the rows of an end that can be placed
+-- ---- what seeking answers: of a run that reads as R, and of one that is refused
+
+module _ (caller : Caller) (s : List ℕ) (E : Pauli) where
+  pub seeking-is : (R : Run) → runOf caller s ≡ accepted R → seeking caller s E ≡ answered (seekingRow E R) (startFor (R .width) (R .steps) E)
+  unfolding seeking ofRun onRun
+  seeking-is R read = rw read
+
+  pub seeking-refused : (r at : ℕ) → runOf caller s ≡ refusedAt r at → seeking caller s E ≡ refusedAt r at
+  unfolding seeking ofRun onRun
+  seeking-refused r at e = rw e
+
+-- ---- the rows, of an end that can be placed
+
 row-reached : (E : Pauli) (R : Run) → placedRow E (lastWidth (R .width) (R .steps)) ≡ 0 → isReached (R .width) (R .steps) E ≡ true → seekingRow E R ≡ 0
 unfolding seekingRow first row
 row-reached E R placed reached = rw (placed, reached)
@@ -69,10 +81,6 @@ module _ (caller : Caller) (narrow : caller .widest ≤ mostQubits) (s : List �
     abbrev found : Pauli → Pauli
     found E = startFor (R .width) (R .steps) E
 
-    seeking-is : (E : Pauli) → seeking caller s E ≡ answered (seekingRow E R) (found E)
-    unfolding seeking ofRun
-    seeking-is E = rw read
-
     serves : (E : Pauli) → seekingRow E R ≡ 0 → StartsFor caller s E (found E)
     serves E none =
         let known = run-allowed caller s R read in
@@ -86,7 +94,7 @@ module _ (caller : Caller) (narrow : caller .widest ≤ mostQubits) (s : List �
         }
 
     some-start : (E : Pauli) → seekingRow E R ≡ 0 → SomeStart caller s E
-    some-start E none = record { pauli = found E; answered = seeking-is E ∙ answered-none (seekingRow E R) (found E) none; serves = serves E none }
+    some-start E none = record { pauli = found E; answered = seeking-is caller s E R read ∙ answered-none (seekingRow E R) (found E) none; serves = serves E none }
 
     -- an end that a Pauli has is placed, and reached
     has-end : (Q : Pauli) → Admitted Q → Q .n ≡ R .width → seekingRow (endPauli Q (R .steps)) R ≡ 0
@@ -129,18 +137,18 @@ module _ (caller : Caller) (narrow : caller .widest ≤ mostQubits) (s : List �
   width-is v c = sym (ap (λ (v : Survey). v .width) (c .is) ∙ survey-width (c .value .width) (c .value .steps))
 
   run-refused : (E : Pauli) (r at : ℕ) → checking caller s ≡ refusedAt r at → seeking caller s E ≡ refusedAt r at
-  unfolding checking seeking ofRun
-  run-refused E r at e = rw (mapped-refused surveyOf (runOf caller s) r at e)
+  unfolding checking
+  run-refused E r at e = seeking-refused caller s E r at (mapped-refused surveyOf (runOf caller s) r at e)
 
   no-pauli : (E : Pauli) (v : Survey) → checking caller s ≡ accepted v → fits E ≡ false → seeking caller s E ≡ refused 3
   unfolding seekingRow placedRow first row answered
-  no-pauli E v e unfit = let c = checked v e in seeking-is (c .value) (c .was) E ∙ rw unfit
+  no-pauli E v e unfit = let c = checked v e in seeking-is caller s E (c .value) (c .was) ∙ rw unfit
 
   misplaced : (E : Pauli) (v : Survey) → checking caller s ≡ accepted v → fits E ≡ true → (E .n ≡ v .width → ⊥) → seeking caller s E ≡ refused 4
   unfolding seekingRow placedRow first row answered
   misplaced E v e fit other =
       let c = checked v e in
-      seeking-is (c .value) (c .was) E ∙ rw (fit, ne-eqb (E .n) (lastWidth (c .value .width) (c .value .steps)) (λ same. other (same ∙ width-is v c)))
+      seeking-is caller s E (c .value) (c .was) ∙ rw (fit, ne-eqb (E .n) (lastWidth (c .value .width) (c .value .steps)) (λ same. other (same ∙ width-is v c)))
 
   or-none : (E : Pauli) (v : Survey) → checking caller s ≡ accepted v → fits E ≡ true → E .n ≡ v .width
       → SomeStart caller s E ⊎ ((seeking caller s E ≡ refused 25) × NoStart caller s E)
@@ -154,7 +162,7 @@ module _ (caller : Caller) (narrow : caller .widest ≤ mostQubits) (s : List �
           → SomeStart caller s E ⊎ ((seeking caller s E ≡ refused 25) × NoStart caller s E)
       by true R reached read placed = inl (some-start R read E (row-reached E R placed reached))
       by false R reached read placed =
-          let is : seeking caller s E ≡ refused 25 = seeking-is R read E ∙ (unfold answered in rw (row-unreached E R placed reached)) in
+          let is : seeking caller s E ≡ refused 25 = seeking-is caller s E R read ∙ (unfold answered in rw (row-unreached E R placed reached)) in
           inr (is, none-starts E is)
 
 -- WHICH START GIVES THIS END

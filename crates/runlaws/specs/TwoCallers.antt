@@ -1,4 +1,4 @@
--- THE TWO CALLERS, as they are said to agree: change request E8, its sentences on the reader and on the state, over the definitions that the calls for reading, checking, running and carrying promise to
+-- THE TWO CALLERS, as they are said to agree: change request E8, its sentences on the reader and on the state, over the definitions that the calls for reading, checking, running, carrying and seeking promise to
 -- the service and to the emulator, and `runOf`, on which they stand. Agreement.antt proves it, for any wide and any narrow caller.
 use mathlib.Core.Path.{_≡_}
 use mathlib.Core.Bool.{true}

@@ -1,1 +1,1 @@
-// Runs as bytes: fields, steps, what running and carrying do, and the frame theorem: definitions and laws, no functions.
+// Runs as bytes: fields, steps, what running, carrying and seeking do, and the theorems on them: definitions and laws, no functions.

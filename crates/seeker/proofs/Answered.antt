@@ -16,17 +16,18 @@ use Rattle.framelaws.specs.Suited.{placed-passed}
 use Rattle.framelaws.specs.Survey.{Survey}
 use Rattle.framelaws.specs.Surveyed.{survey-width}
 use Rattle.runlaws.specs.Run.{runOf}
-use Rattle.runlaws.specs.Calls.{checkedRunOf, surveyOf, checkingWithStart, ofRun, seekingRow, seeking}
+use Rattle.runlaws.specs.Calls.{checkedRunOf, surveyOf, checkingWithStart, seekingRow, seeking}
 use Rattle.runlaws.specs.Mapped.{mapped-refused}
 use Rattle.runlaws.specs.OnStart.{runIn, checked-read, checked-start, checked-survey}
 use Rattle.runlaws.specs.Outcomes.{last-within}
+use Rattle.runlaws.specs.Seeking.{seeking-is, seeking-refused}
 use Rattle.runlaws.specs.WholeRun.{run-allowed}
 use Rattle.seeker.specs.Seekable.{stepsIn, Seekable}
 
 module _ (caller : Caller) (s : List ℕ) (E : Pauli) where
   pub run-refused : (n at : ℕ) → checkingWithStart caller s ≡ refusedAt n at → refusedAt n at ≡ seeking caller s E
-  unfolding seeking ofRun checkingWithStart
-  run-refused n at e = rw (mapped-refused checkedRunOf (runOf caller s) n at e)
+  unfolding checkingWithStart
+  run-refused n at e = sym (seeking-refused caller s E n at (mapped-refused checkedRunOf (runOf caller s) n at e))
 
   -- of a run that is checked: its widths, and the rows of E at the last
   module _ {width : ℕ} {v : Survey} (checked : checkingWithStart caller s ≡ accepted (record { start = width; survey = v })) {r : ℕ} (is : r ≡ placedRow E (v .width)) where
@@ -39,14 +40,14 @@ module _ (caller : Caller) (s : List ℕ) (E : Pauli) where
         ap (λ (v : Survey). v .width) (checked-survey caller s checked) ∙ survey-width (runIn caller s .width) (stepsIn caller s)
         ∙ ap (λ (n : ℕ). lastWidth n (stepsIn caller s)) (sym (checked-start caller s checked))
 
-    seeking-is : seeking caller s E ≡ answered (first r reachedRow) (startFor width (stepsIn caller s) E)
-    unfolding seeking ofRun seekingRow
-    seeking-is = rw (checked-read caller s checked, is, last-is, checked-start caller s checked)
+    seeking-by : seeking caller s E ≡ answered (first r reachedRow) (startFor width (stepsIn caller s) E)
+    unfolding seekingRow
+    seeking-by = seeking-is caller s E (runIn caller s) (checked-read caller s checked) ∙ rw (is, last-is, checked-start caller s checked)
 
     pub row-refused : (r ≡ 0 → ⊥) → refused r ≡ seeking caller s E
     row-refused ne =
         let some = some-row r ne in
-        sym (seeking-is ∙ ap (λ (n : ℕ). answered n (startFor width (stepsIn caller s) E)) (first-some r reachedRow some) ∙ answered-some r _ some)
+        sym (seeking-by ∙ ap (λ (n : ℕ). answered n (startFor width (stepsIn caller s) E)) (first-some r reachedRow some) ∙ answered-some r _ some)
 
     module _ (none : r ≡ 0) where
       pub seekable : caller .widest ≤ widestRun → Seekable caller s width (E .n)
@@ -66,4 +67,4 @@ module _ (caller : Caller) (s : List ℕ) (E : Pauli) where
           }
 
       pub searched : {a : Answer Pauli} → a ≡ answered reachedRow (startFor width (stepsIn caller s) E) → a ≡ seeking caller s E
-      searched e = e ∙ sym (seeking-is ∙ ap (λ (n : ℕ). answered n (startFor width (stepsIn caller s) E)) (first-none r reachedRow none))
+      searched e = e ∙ sym (seeking-by ∙ ap (λ (n : ℕ). answered n (startFor width (stepsIn caller s) E)) (first-none r reachedRow none))

@@ -1,5 +1,5 @@
 pub mod OneWord
-pub mod Passing
+pub mod Words
 pub mod Masks
 pub mod Written
 pub mod Answered

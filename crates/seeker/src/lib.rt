@@ -1,6 +1,7 @@
 // Seeking: which Pauli, noted before a run, is carried to a given one at its end. A phase that is raised at the
 // start is raised at the end, and the masks at the end are a linear function of those at the start. So each mask of
 // one bit is carried, at most 24 of them, and the masks of the end are sought among the sums of what they become.
+mod elimination;
 mod mask_word;
 mod walk;
 
@@ -31,14 +32,14 @@ pub enum SeekAnswer {
 // The mask bits of a start on 12 qubits.
 const MOST_BITS: usize = 24;
 
-// A run of the service, and a Pauli on its last qubits.
+// Some Pauli on the start qubits that a run of the service carries to `end`, which is on the last qubits.
 pub fn seek_start(run: &[u8], end: ActivePauli) -> SeekAnswer
     ensures { λ r. ⌜ seekAnswerOf r ≡ seeking service (now (run .entry)) (activeOf end) ⌝ }
 {
     seek_for(run, end, Caller::service())
 }
 
-// The same of the emulator.
+// The same of a run of the emulator.
 pub fn seek_emulated(run: &[u8], end: ActivePauli) -> SeekAnswer
     ensures { λ r. ⌜ seekAnswerOf r ≡ seeking emulator (now (run .entry)) (activeOf end) ⌝ }
 {
@@ -102,23 +103,23 @@ fn with_image(run: &[u8], width: usize, last: usize, masks: u64, caller: Caller)
     ensures { λ r. ⌜ r ≡ frame.withImage width (stepsIn (callerOf caller) (now (run .entry))) masks ⌝ }
 {
     let end = walk::end_pauli(run, mask_word::with_masks(width, 0, masks), caller);
-    let one = 1u64 << (last + last);
-    masks * one + mask_word::mask_word(end, last)
+    let above = 1u64 << (last + last);
+    masks * above + mask_word::mask_word(end, last)
 }
 
 // By what elimination left: 25 where a digit of the end's masks is left; else a start's masks stand above these digits,
-// and its phase is what the end's is more than theirs.
+// and its phase is the end's less the one that these masks end with.
 fn start_for(run: &[u8], end: ActivePauli, width: usize, left: u64, caller: Caller) -> SeekAnswer
     requires { ⌜ Seekable (callerOf caller) (now run) width (end .nqubits) ⌝ }
     requires { ⌜ left ≡ frame.remainder width (stepsIn (callerOf caller) (now run)) (activeOf end) ⌝ }
     ensures { λ r. let steps = stepsIn (callerOf caller) (now (run .entry)) in let E = activeOf end in
         ⌜ seekAnswerOf r ≡ answered (row (not (frame.isReached width steps E)) 25 0) (frame.startFor width steps E) ⌝ }
 {
-    let one = 1u64 << (end.nqubits + end.nqubits);
-    if left % one != 0 {
+    let above = 1u64 << (end.nqubits + end.nqubits);
+    if left % above != 0 {
         return SeekAnswer::Refused(25);
     }
-    let masks = left / one;
+    let masks = left / above;
     let carried = walk::end_pauli(run, mask_word::with_masks(width, 0, masks), caller);
     let phase = (end.phase % 4 + 3 * (carried.phase % 4)) % 4;
     SeekAnswer::Start(mask_word::with_masks(width, phase, masks))

@@ -13,7 +13,7 @@ use Rattle.runlaws.specs.OnStart.{runIn}
 use Rattle.callers.specs.Meaning.{callerOf}
 use Rattle.steps.proofs.Ended.{none-left}
 use Rattle.steps.specs.Meaning.{cursorOf, stepOf, readOf}
-use Rattle.carrier.proofs.Turn.{Carrying, outset, step-room, turn, all-passed}
+use Rattle.carrier.proofs.Turn.{Carrying, outset, step-room, turn, all-written}
 use borrow.Author.Needs.{needs}
 use Rattle.carrier.proofs.carry_steps.Statement.{statement}
 use Rattle.carrier.proofs.carry_steps.Tie as tie
@@ -46,7 +46,7 @@ gone : (c : tie.After-got Inv-loop μ-loop) → let at-loop = c .before .before 
     Gone (callerOf (a .caller)) (a .run .now) (cursorOf (at-loop .loop .cursor)) (activeOf (at-loop .loop .held)) (w .steps) t next
 gone c =
     let read = c .before .before in
-    going-step (read .before .loop .inv .0 .going) _ _ (sym (read .read .ensures) ∙ ap readOf (c .got .given .1))
+    going-step (read .before .loop .inv .0 .passing .going) _ _ (sym (read .read .ensures) ∙ ap readOf (c .got .given .1))
 
 past-requires : tie.Need-past-requires Inv-loop μ-loop
 past-requires c κs = search needs
@@ -101,7 +101,7 @@ same-length-2 c = c .before .before .loop .inv .1
 returns-2 : tie.Need-returns-2 Inv-loop μ-loop
 returns-2 c =
     let w = c .before .before .loop .inv .0 in
-    all-passed w (none-left (w .going .left) (c .before .read .result) (c .before .read .ensures) (c .match .keys2))
+    all-written w (none-left (w .passing .going .left) (c .before .read .result) (c .before .read .ensures) (c .match .keys2))
 
 pub carry-steps-spec : {M : Type 1} → statement M
 carry-steps-spec =

@@ -8,11 +8,11 @@ use Rattle.seeker.proofs.OneWord.{shifted}
 use Rattle.seeker.proofs.start_for.Statement.{statement}
 use Rattle.seeker.proofs.start_for.Tie as tie
 
-add-one : tie.Need-add-one
-add-one c = search needs
+add-above : tie.Need-add-above
+add-above c = search needs
 
-shl-one : tie.Need-shl-one
-shl-one c = search needs
+shl-above : tie.Need-shl-above
+shl-above c = search needs
 
 rem-if1 : tie.Need-rem-if1
 rem-if1 c =
@@ -62,8 +62,8 @@ pub start-for-spec : {M : Type 1} → statement M
 start-for-spec =
     tie.close
     (tie.spec
-    add-one
-    shl-one
+    add-above
+    shl-above
     rem-if1
     returns
     div-masks

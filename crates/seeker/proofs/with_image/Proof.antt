@@ -15,11 +15,11 @@ end-pauli-requires c κs =
     let start = c .before .before in
     masks-start (start .pre .0) (start .args .masks) (c .with-masks .ensures)
 
-add-one : tie.Need-add-one
-add-one c = search needs
+add-above : tie.Need-add-above
+add-above c = search needs
 
-shl-one : tie.Need-shl-one
-shl-one c = search needs
+shl-above : tie.Need-shl-above
+shl-above c = search needs
 
 mul-result : tie.Need-mul-result
 mul-result c =
@@ -54,8 +54,8 @@ with-image-spec =
     (tie.spec
     with-masks-requires
     end-pauli-requires
-    add-one
-    shl-one
+    add-above
+    shl-above
     mul-result
     mask-word-requires
     add-result

@@ -6,8 +6,8 @@ use native.Mathlib.Numerals.{add-one}
 use native.Mathlib.Omega.{arith}
 use lib.ListN.{length, length-map}
 use Rattle.bitlaws.specs.Elimination as law
-use Rattle.elimination.proofs.eliminate.Statement.{statement}
-use Rattle.elimination.proofs.eliminate.Tie as tie
+use Rattle.seeker.proofs.elimination.eliminate.Statement.{statement}
+use Rattle.seeker.proofs.elimination.eliminate.Tie as tie
 
 abbrev Inv-loop : tie.InvT-loop
 Inv-loop words₀ word digits left₀ j₀ words left j = (j ≤ digits) × (left ≡ law.wordAfter j words₀ word) × (words ≡ law.wordsAfter j words₀) × (length words ≡ length words₀)

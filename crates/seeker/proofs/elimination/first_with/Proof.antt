@@ -5,9 +5,9 @@ use native.Mathlib.Numerals.{add-one}
 use native.Mathlib.Omega.{arith}
 use lib.ListN.{length, drop}
 use Rattle.bitlaws.specs.Elimination as law
-use Rattle.elimination.proofs.Words.{first-here, first-next, first-none}
-use Rattle.elimination.proofs.first_with.Statement.{statement}
-use Rattle.elimination.proofs.first_with.Tie as tie
+use Rattle.seeker.proofs.Words.{first-here, first-next, first-none}
+use Rattle.seeker.proofs.elimination.first_with.Statement.{statement}
+use Rattle.seeker.proofs.elimination.first_with.Tie as tie
 
 abbrev Inv-loop : tie.InvT-loop
 Inv-loop words j i₀ i = (i ≤ length words) × (law.firstWith j (drop i words) ≡ law.firstWith j words)

@@ -1,8 +1,8 @@
 use mathlib.Core.Path.{sym, _∙_}
 use borrow.Author.Needs.{needs}
 use Rattle.bitlaws.specs.Elimination as law
-use Rattle.elimination.proofs.cleared.Statement.{statement}
-use Rattle.elimination.proofs.cleared.Tie as tie
+use Rattle.seeker.proofs.elimination.cleared.Statement.{statement}
+use Rattle.seeker.proofs.elimination.cleared.Tie as tie
 
 word-bit-requires : tie.Need-word-bit-requires
 word-bit-requires c κs = search needs

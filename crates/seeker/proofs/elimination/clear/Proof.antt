@@ -4,9 +4,9 @@ use native.Mathlib.Numerals.{add-one}
 use native.Mathlib.Omega.{arith}
 use lib.ListN.{length}
 use Rattle.bitlaws.specs.Elimination as law
-use Rattle.elimination.proofs.Words.{Mapped, mapped-none, mapped-next, mapped-all}
-use Rattle.elimination.proofs.clear.Statement.{statement}
-use Rattle.elimination.proofs.clear.Tie as tie
+use Rattle.seeker.proofs.Words.{Mapped, mapped-none, mapped-next, mapped-all}
+use Rattle.seeker.proofs.elimination.clear.Statement.{statement}
+use Rattle.seeker.proofs.elimination.clear.Tie as tie
 
 abbrev Inv-loop : tie.InvT-loop
 Inv-loop words₀ j w i₀ words i = Mapped (law.cleared j w) words₀ i words

@@ -5,7 +5,7 @@ ghost use mathlib.Core.List.{map};
 ghost use Rattle.bitlaws.specs.Elimination as law;
 
 // The first word that has digit j, 0 where none has.
-pub fn first_with(words: &[u64], j: usize) -> u64
+fn first_with(words: &[u64], j: usize) -> u64
     ensures { λ r. ⌜ r ≡ law.firstWith j (now (words .entry)) ⌝ }
 {
     let mut i = 0;
@@ -20,7 +20,7 @@ pub fn first_with(words: &[u64], j: usize) -> u64
 }
 
 // A word whose digit j, where it has it, is cleared by `other`.
-pub fn cleared(word: u64, j: usize, other: u64) -> u64
+fn cleared(word: u64, j: usize, other: u64) -> u64
     ensures { λ r. ⌜ r ≡ law.cleared j other word ⌝ }
 {
     if bits::word_bit(word, j) {
@@ -30,7 +30,7 @@ pub fn cleared(word: u64, j: usize, other: u64) -> u64
 }
 
 // Every word so.
-pub fn clear(words: &mut [u64], j: usize, other: u64)
+fn clear(words: &mut [u64], j: usize, other: u64)
     ensures { λ _. ⌜ now (words .exit) ≡ map (law.cleared j other) (now (words .entry)) ⌝ }
 {
     let mut i = 0;
@@ -41,7 +41,7 @@ pub fn clear(words: &mut [u64], j: usize, other: u64)
 }
 
 // The lowest `digits` digits, one after the other: what is left of `word`.
-pub fn eliminate(words: &mut [u64], word: u64, digits: usize) -> u64
+pub(crate) fn eliminate(words: &mut [u64], word: u64, digits: usize) -> u64
     ensures word { λ r. ⌜ r ≡ law.wordAfter digits (now (words .entry)) word ⌝ }
     ensures words { λ _. ⌜ now (words .exit) ≡ law.wordsAfter digits (now (words .entry)) ⌝ }
 {

@@ -12,6 +12,8 @@ pub mod draw;
 pub mod floats;
 pub mod largest;
 pub mod lent;
+#[cfg(test)]
+mod letters;
 pub mod listings;
 pub mod merging;
 pub mod mutate;

@@ -211,15 +211,8 @@ fn turned(turned: [bool; 2]) -> &'static str {
 mod tests {
     use super::*;
     use crate::callers::BOTH;
+    use crate::letters::{X, Y, Z};
     use model::run::Run;
-
-    const X: Pauli = letter(0, 1, 0);
-    const Y: Pauli = letter(1, 1, 1);
-    const Z: Pauli = letter(0, 0, 1);
-
-    const fn letter(k: u8, x: u64, z: u64) -> Pauli {
-        Pauli { n: 1, k, x, z }
-    }
 
     fn projection(pauli: Pauli) -> Step {
         Step::Projection {

@@ -292,14 +292,7 @@ fn at_step(frame: Pauli, step: Step) -> &'static str {
 mod tests {
     use super::*;
     use crate::callers::BOTH;
-
-    const X: Pauli = letter(0, 1, 0);
-    const Y: Pauli = letter(1, 1, 1);
-    const Z: Pauli = letter(0, 0, 1);
-
-    const fn letter(k: u8, x: u64, z: u64) -> Pauli {
-        Pauli { n: 1, k, x, z }
-    }
+    use crate::letters::{X, Y, Z};
 
     /// Names ends of a run that starts on one qubit to both callers: what each answers and counts.
     fn sought(steps: Vec<Step>, named: &Named, names: &[(&'static str, u64)]) -> Vec<Answered> {

@@ -1,7 +1,7 @@
 #!/usr/bin/env bash
 # Runs the check of the frame theorem on random runs, by the service and by the emulator, that the two leave the same, that two
-# corrections carried one after the other are the two carried as one, and that a start which is sought for an end is carried to it,
-# or there is none.
+# corrections carried one after the other are the two carried as one, that a start which is sought for an end is carried to it, or
+# there is none, and that a run without its corrections and then its end Pauli leave what the run leaves.
 #
 #   frames.sh [ARGUMENTS of the program frames]
 #

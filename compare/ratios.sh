@@ -1,6 +1,6 @@
 #!/usr/bin/env bash
-# Times calls on the largest runs and prints, beside the times, their ratios: what seeking a start costs in checks and in carries of
-# the same run.
+# Times calls on the largest runs and prints, beside the times, their ratios: what seeking a start and what folding costs in checks
+# and in carries of the same run.
 #
 #   ratios.sh [ARGUMENTS of the program ratios]
 #

@@ -9,12 +9,13 @@
     runs.py listings PROGRAM SEED COUNT  COUNT random runs given to PROGRAM (target/bin/bench) as well, and compared so
 
 Written from the scope's text (document 01) and, for quarter turns, the emulator,
-merged corrections and the search for a start, from requests E13, E8, E11 and E12
-(document 02), which the comments quote, without the Rattle's definitions of runs; its
-writer had seen the Rattle code of reader and checker before, the writers of the emulator's
-part and of merged corrections were told to open none, the writer of the search for a start
-was told not to open the Rattle code of the seeker. It shares no code with the Rattle or the
-Rust. The kernels' steps are those of model.py; a quarter turn is its rotation.
+merged corrections, the search for a start and runs without corrections, from requests E13,
+E8, E11, E12 and E2 (document 02), which the comments quote, without the Rattle's definitions
+of runs; its writer had seen the Rattle code of reader and checker before, the writers of the
+emulator's part and of merged corrections were told to open none, the writer of the search for
+a start was told not to open the Rattle code of the seeker, the writer of runs without
+corrections that of the folder, the carrier and passing. It shares no code with the Rattle or
+the Rust. The kernels' steps are those of model.py; a quarter turn is its rotation.
 
 A call is its name, a run, numbers (masks after 0x), then the lent buffers as in
 model.py, a bar before each. A run is hexadecimal digits in pieces with commas
@@ -45,6 +46,13 @@ between; `3*` before a piece stands for three of it.
                                     Pauli that carry answers for it with an output of 66,000 bytes, then `same` where
                                     that is the named one, else `differ`. Any start that serves is right, so none is
                                     shown. `unread` as for merge, of four numbers
+    fold-into RUN length            E2: the end Pauli, the folded length, the folded run's bytes or, where they are more
+                                    than 400, a digest of them, and whether what lies past them is kept (on a refusal,
+                                    all) of an output that is lent as so many bytes 0xee; then `same` where folding these
+                                    bytes into an output of exactly their length gives them back with the identity
+                                    on the last qubits, else `differ`. `unread` as for merge, of one number, which is
+                                    66,000 or less
+    fold-equal RUN | re | im        E2: for each basis the amplitude of (run) and of (folded run, end Pauli), then as both
 
     emulated-step RUN at width
     emulated-check RUN
@@ -53,8 +61,10 @@ between; `3*` before a piece stands for three of it.
     emulated-both RUN width k x z | re | im
     emulated-merge RUN width k x z width k x z
     emulated-seeker RUN width k x z
-                                    step, check, run, carry, both, merge and seeker for the emulator; the calls above
-                                    are the service's
+    emulated-fold-into RUN length
+    emulated-fold-equal RUN | re | im
+                                    step, check, run, carry, both, merge, seeker, fold-into and fold-equal for the
+                                    emulator; the calls above are the service's
 
 `refused` and the number, `at` and the offset where it has one, is a refusal.
 """
@@ -71,7 +81,8 @@ from model import Pauli, Refused, number, parity, refuse, shown
 
 LONGEST = 65536
 FILLED = 0xEE
-HELD = 66000  # Bytes of each output of `merge` and `seeker`, and of the longest run that they read.
+HELD = 66000  # Bytes of each output of `merge`, `seeker` and `fold-equal`, and of the longest run that they read.
+SPELLED = 400  # Bytes of the longest folded run that is shown whole.
 ROOM = 160  # Floats that a lent buffer may have.
 
 
@@ -310,12 +321,53 @@ def carry(run, caller, pauli, room):
     out = bytearray(run)
     for at, step in steps:
         left, pauli = passed(pauli, step)
-        # A rotation's sign stands behind its Pauli's 17 bytes, a projection's branch behind the pivot too.
-        if left[0] == "rotation":
-            out[at + 3 + 17] = left[2]
-        elif left[0] == "projection":
-            out[at + 3 + 18] = left[3]
+        set_flag(out, at, left)
     return bytes(out), pauli
+
+
+def set_flag(out, at, left):
+    """The field there takes the sign or the branch of the step that is left."""
+    # A rotation's sign stands behind its Pauli's 17 bytes, a projection's branch behind the pivot too.
+    if left[0] == "rotation":
+        out[at + 3 + 17] = left[2]
+    elif left[0] == "projection":
+        out[at + 3 + 18] = left[3]
+
+
+# ----------------------------------------------------- runs without corrections
+
+
+def fold(run, caller, room):
+    """The run with every tag 5 field removed, and the end Pauli: start with identity, carry it along by the rules, and at
+    each correction P replace the Pauli by P·(it). Freed bytes are closed up; the output length is that of the fields
+    left. `room` is the output's length."""
+    width, steps = walk(run, caller)
+    pauli, out = Pauli(width, 0, 0, 0), bytearray(run[:4])
+    for at, step in steps:
+        if step[0] == "correction":
+            pauli = product(step[1], pauli)
+            continue
+        left, pauli = passed(pauli, step)
+        place = len(out)
+        out += run[at : at + 3 + LENGTHS[run[at]]]
+        set_flag(out, place, left)
+    out += END
+    refuse(16, room < len(out))
+    return bytes(out), pauli
+
+
+def folded_from_behind(run, caller):
+    """As `fold`, another way: the last correction is carried to the end of the run, past steps that are no corrections, then
+    the one before it through what that leaves; an end Pauli comes before those that were there already."""
+    end = Pauli(survey(run, caller)[0], 0, 0, 0)
+    while True:
+        places = [(at, step[1]) for at, step in walk(run, caller)[1] if step[0] == "correction"]
+        if not places:
+            return run, end
+        at, pauli = places[-1]
+        behind = starting(pauli.n) + run[at + 20 :]
+        left, last = carry(behind, caller, pauli, len(behind))
+        run, end = run[:at] + left[4:], product(end, last)
 
 
 # --------------------------------------------------------- a start for an end
@@ -391,13 +443,32 @@ def lent(part, past):
     return (part + [past] * ROOM)[:ROOM]
 
 
+def four_lent(re, im, past):
+    """The four buffers that a run from that state is lent."""
+    return [lent(re, past), lent(im, past), lent([], 0.0), lent([], 0.0)]
+
+
 def both_sides(run, caller, pauli, re, im):
     """Each basis with both amplitudes; the verdict; whether demand 3 promises `same`."""
     carried, end = carry(run, caller, pauli, len(run))
-    left = [lent(re, 0.0), lent(im, 0.0), lent([], 0.0), lent([], 0.0)]
-    right = [lent(re, 7.0), lent(im, 7.0), lent([], 0.0), lent([], 0.0)]
+    left = four_lent(re, im, 0.0)
     model.correct(pauli, *left[:2])
     last, _ = run_whole(run, caller, *left)
+    return against(left, last, carried, end, caller, re, im)
+
+
+def folded_sides(run, caller, re, im):
+    """The same of the run and of the folded run; whether E2 promises `same`."""
+    folded, end = fold(run, caller, HELD)
+    left = four_lent(re, im, 0.0)
+    last, _ = run_whole(run, caller, *left)
+    return against(left, last, folded, end, caller, re, im)
+
+
+def against(left, last, run, end, caller, re, im):
+    """One side that has been run to the last width, and the run from that state with the end Pauli behind it, which is looked
+    at for amplitudes that are not finite."""
+    right = four_lent(re, im, 7.0)
     finite = True
 
     def seen(width):
@@ -405,7 +476,7 @@ def both_sides(run, caller, pauli, re, im):
         parts = right[0][: 2**width] + right[1][: 2**width]
         finite = finite and all(abs(x) < float("inf") for x in parts)
 
-    run_whole(carried, caller, *right, seen)
+    run_whole(run, caller, *right, seen)
     model.correct(end, *right[:2])
     lines, worst = [], 0
     for b in range(2**last):
@@ -505,8 +576,12 @@ def told_carry(run, caller, pauli, room):
 
 
 def told_both(run, caller, pauli, re, im):
-    lines, verdict, finite = both_sides(run, caller, pauli, re, im)
-    assert verdict == "same" or not finite, "demand 3"
+    return told_sides(both_sides(run, caller, pauli, re, im), "demand 3")
+
+
+def told_sides(sides, claim):
+    lines, verdict, finite = sides
+    assert verdict == "same" or not finite, claim
     return " | ".join([*lines, verdict])
 
 
@@ -544,6 +619,41 @@ def told_seek(run, caller, words):
     return f"start {pauli.n} | carried {end.shown()} | {verdict}"
 
 
+def digest(folded):
+    """From FNV's offset basis, byte by byte: the byte xored in, times 2^40 + 2^8 + 1, modulo 2^64."""
+    value = 0xCBF29CE484222325
+    for byte in folded:
+        value = (value ^ byte) * (2**40 + 2**8 + 1) % 2**64
+    return value
+
+
+def told_folded(folded, end, past):
+    """A folded run, its end Pauli, and what lies past it in the output."""
+    run = f"[{folded.hex()}]" if len(folded) <= SPELLED else f"{digest(folded):016x}"
+    return f"folded {end.shown()} {len(folded)} {run}{told_output(b'', past)}"
+
+
+def told_fold(run, caller, words):
+    """Folding a folded run gives it back with the identity: it has no correction."""
+    if len(run) > HELD or len(words) != 1 or words[0] > HELD:
+        return "unread"
+    out = bytes([FILLED]) * words[0]
+    try:
+        folded, end = fold(run, caller, len(out))
+    except (Refused, RefusedAt) as refusal:
+        return refused(refusal) + told_output(b"", out)
+    again, left = fold(folded, caller, len(folded))
+    verdict = "same" if again == folded and left.shown() == Pauli(end.n, 0, 0, 0).shown() else "differ"
+    assert verdict == "same", "E2"
+    return f"{told_folded(folded, end, out[len(folded) :])} | {verdict}"
+
+
+def told_fold_equal(run, caller, words, re, im):
+    if len(run) > HELD or words:
+        return "unread"
+    return told_sides(folded_sides(run, caller, re, im), "E2")
+
+
 def answer(line):
     if line.startswith("#"):
         return line
@@ -573,6 +683,10 @@ def answer(line):
             return told_merge(run, caller, words)
         if name == "seeker":
             return told_seek(run, caller, words)
+        if name == "fold-into":
+            return told_fold(run, caller, words)
+        if name == "fold-equal":
+            return told_fold_equal(run, caller, words, *buffers)
         if name == "passing":
             return told_past(run[0], words, *buffers)
         assert name == "run"
@@ -672,6 +786,14 @@ def seek_line(text, end):
     """The named end with its width."""
     n, k, x, z = end
     return f"seeker {text} {n} {k} {x:#x} {z:#x}"
+
+
+def fold_line(text, room):
+    return f"fold-into {text} {room}"
+
+
+def equal_line(text, re, im):
+    return f"fold-equal {text} |{floats(re)} |{floats(im)}"
 
 
 def length(text):
@@ -1669,12 +1791,13 @@ def emulated_unread(lines):
         lines.ask(on_emulator(carry_line(over, n, Z, LONGEST + 1)), "refused 14 at 0 kept")
 
 
+def alike(re, im, verdict="same"):
+    """The same number on both sides, signs of zeros too."""
+    return " | ".join([f"{b}{floats([*parts, *parts])}" for b, parts in enumerate(zip(re, im))] + [verdict])
+
+
 def emulated_both(lines):
     """Demand 3's two sides by the emulator's carrying and running."""
-
-    def alike(re, im):
-        """The same number on both sides, signs of zeros too."""
-        return " | ".join([f"{b}{floats([*parts, *parts])}" for b, parts in enumerate(zip(re, im))] + ["same"])
 
     def as_service(line, verdict="same"):
         assert answer(line).endswith(f" {verdict}")
@@ -2198,30 +2321,33 @@ def seeking_longest(lines):
             lines.ask(seek_line(text, end), "refused 14 at 0")
 
 
+# Refused runs, each with its row and its place.
+REFUSED_RUNS = [
+    ([], "14 at 0"),
+    ([correcting(), END], "14 at 0"),
+    ([starting(13), END], "14 at 0"),
+    ([starting(2)], "14 at 4"),
+    ([starting(2), promoting()[:-1]], "14 at 4"),
+    ([starting(2), correcting((4, 0, 0)), END], "3 at 4"),
+    ([starting(2), turning((0, 4, 0)), END], "3 at 4"),
+    ([starting(2), turning((1, 1, 0)), END], "7 at 4"),
+    ([starting(2), correcting(), rotating((1, 1, 0)), END], "7 at 24"),
+    ([starting(2), promoting(NAN), END], "8 at 4"),
+    ([starting(0), projecting(I), END], "9 at 4"),
+    ([starting(2), projecting(X, 2), END], "10 at 4"),
+    ([starting(2), projecting(I), END], "11 at 4"),
+    ([starting(2), promoting(), projecting(X, 2), END], "12 at 23"),
+    ([starting(2), rotating(X, 2), END], "14 at 4"),
+    ([starting(2), correcting(), framed(9, b""), END], "14 at 24"),
+    ([starting(2), promoting(), END, END], "14 at 26"),
+    ([starting(12), promoting(), END], "15 at 4"),
+    ([starting(11), promoting(), promoting(), END], "15 at 23"),
+]
+
+
 def seeking_refused(lines):
     lines.say("A refused run: its row and its place, before 3 and 4 of the end and before 25.")
-    two = starting(2)
-    for run, told in (
-        ([], "14 at 0"),
-        ([correcting(), END], "14 at 0"),
-        ([starting(13), END], "14 at 0"),
-        ([two], "14 at 4"),
-        ([two, promoting()[:-1]], "14 at 4"),
-        ([two, correcting((4, 0, 0)), END], "3 at 4"),
-        ([two, turning((0, 4, 0)), END], "3 at 4"),
-        ([two, turning((1, 1, 0)), END], "7 at 4"),
-        ([two, correcting(), rotating((1, 1, 0)), END], "7 at 24"),
-        ([two, promoting(NAN), END], "8 at 4"),
-        ([starting(0), projecting(I), END], "9 at 4"),
-        ([two, projecting(X, 2), END], "10 at 4"),
-        ([two, projecting(I), END], "11 at 4"),
-        ([two, promoting(), projecting(X, 2), END], "12 at 23"),
-        ([two, rotating(X, 2), END], "14 at 4"),
-        ([two, correcting(), framed(9, b""), END], "14 at 24"),
-        ([two, promoting(), END, END], "14 at 26"),
-        ([starting(12), promoting(), END], "15 at 4"),
-        ([starting(11), promoting(), promoting(), END], "15 at 23"),
-    ):
+    for run, told in REFUSED_RUNS:
         for end in ((2, *I), (3, 0, 4, 0), (2, 4, 0, 0), (257, 9, 9, 9)):
             lines.ask(seek_line(spelled(*run), end), f"refused {told}")
 
@@ -2319,6 +2445,386 @@ def seeking_unread(lines):
     lines.ask(seek_line(spelled(starting(1), END, (HELD - 6, bytes(1))), (1, *X)), "unread")
 
 
+def folding(lines):
+    """Runs without corrections: the folded run and the end Pauli, by hand."""
+    folding_nothing(lines)
+    folding_products(lines)
+    folding_qubits(lines)
+    folding_rotations(lines)
+    folding_promotions(lines)
+    folding_projections(lines)
+    folding_between(lines)
+    folding_turns(lines)
+    folding_kinds(lines)
+    folding_lengths(lines)
+    folding_room(lines)
+    folding_refused(lines)
+    folding_emulated(lines)
+    folding_unread(lines)
+    folding_equal(lines)
+    folding_infinite(lines)
+
+
+def folds(end, n, left, past=0):
+    """The answer with that end Pauli and those steps left of a run from n qubits, so many bytes of the output being past them."""
+    folded = bytes_of(spelled(starting(n), *left, END))
+    return f"{told_folded(folded, Pauli(*end), bytes([FILLED]) * past)} | same"
+
+
+def fold_all(lines, n, cases, past=0):
+    """Steps from n qubits, the end Pauli with its width, and the steps that are left."""
+    for steps, end, left in cases:
+        room = length(spelled(starting(n), *left, END)) + past
+        lines.ask(fold_line(spelled(starting(n), *steps, END), room), folds(end, n, left, past))
+
+
+def folding_nothing(lines):
+    lines.say("Runs without corrections: the end Pauli, the folded length, the folded run. The empty run, from 0 to 12 qubits.")
+    for n in range(13):
+        fold_all(lines, n, [([], (n, *I), [])], n % 3)
+    lines.say("No correction in it: the run, and the identity of the last width.")
+    every = [step for step in EVERY_KIND[1:-1] if step[0] != 5]
+    for n, steps, last in ((2, every, 1), (0, TURNS[1:-1], 0), (1, DIAGONAL[1:3], 0), (0, [(12, promoting())], 12)):
+        fold_all(lines, n, [(steps, (last, *I), steps)], 5)
+    lines.say("Nothing but corrections, the identity one of them: start and end are left.")
+    fold_all(lines, 1, [([correcting(I)], (1, *I), []), ([correcting(X)] * 2, (1, *I), []), ([correcting(X)] * 3, (1, *X), [])])
+
+
+def book_product(p, q):
+    """The product P·Q of two letters: what a quarter turn makes of Q is -i P·Q where they anticommute."""
+    if "I" in (p, q) or p == q:
+        return I if p == q else LETTERS[p if q == "I" else q]
+    k, x, z = pauli_named(TURNED[p, q])
+    return (k + 1) % 4, x, z
+
+
+def folding_products(lines):
+    lines.say("One correction of each letter and phase, on one qubit.")
+    fold_all(lines, 1, [([correcting(p)], (1, *p), []) for p in every_pauli(1)])
+    lines.say("Two: P behind Q is P·Q, each letter behind each. X and then Z is Z·X, which is i Y.")
+    for q in LETTERS:
+        for p in LETTERS:
+            fold_all(lines, 1, [([correcting(LETTERS[q]), correcting(LETTERS[p])], (1, *book_product(p, q)), [])])
+    fold_all(lines, 1, [([correcting(X), correcting(Z)], (1, 2, 1, 1), []), ([correcting(Z), correcting(X)], (1, 0, 1, 1), [])])
+    lines.say("All sixteen after one another, four letters of each phase: Z·Y·X is -i, and X·Y·Z is i.")
+    for names, phase in (("IXYZ", 3), ("ZYXI", 1)):
+        sixteen = [raised(Pauli(1, *LETTERS[name]), k) for k in range(4) for name in names]
+        fields_of = [correcting((p.k, p.x, p.z)) for p in sixteen]
+        for rounds in range(1, 5):
+            fold_all(lines, 1, [(fields_of[: 4 * rounds], (1, phase * rounds % 4, 0, 0), [])])
+
+
+def folding_qubits(lines):
+    lines.say("Two qubits: XI and then ZZ; XX and ZZ in either order; YX and then XY; eleven and twelve qubits: X on all, then Z on all.")
+    xx, zz = (0, 3, 0), (0, 0, 3)
+    fold_all(lines, 2, [
+        ([correcting((0, 1, 0)), correcting(zz)], (2, 2, 1, 3), []),
+        ([correcting(xx), correcting(zz)], (2, 0, 3, 3), []),
+        ([correcting(zz), correcting(xx)], (2, 0, 3, 3), []),
+        # XY·YX is i Z on the first and -i Z on the second.
+        ([correcting((1, 3, 1)), correcting((1, 3, 2))], (2, 0, 0, 3), []),
+    ])
+    for n, phase in ((11, 2), (12, 0)):
+        full = 2**n - 1
+        fold_all(lines, n, [([correcting((0, full, 0)), correcting((0, 0, full))], (n, phase, full, full), [])])
+    lines.say("On no qubit the phases add.")
+    for b, a in ((0, 1), (1, 1), (2, 1), (3, 1), (3, 2), (3, 3)):
+        fold_all(lines, 0, [([correcting((b, 0, 0)), correcting((a, 0, 0))], (0, (b + a) % 4, 0, 0), [])])
+
+
+def folding_rotations(lines):
+    lines.say("A correction before a rotation: the sign flips where the letters differ; behind it: the sign stays.")
+    for place, (q, p) in enumerate(itertools.product("XYZ", "XYZ")):
+        sign, q, p = place % 2, LETTERS[q], LETTERS[p]
+        fold_all(lines, 1, [([correcting(q), rotating(p, sign)], (1, *q), [rotating(p, sign ^ (p != q))])])
+    behind = [rotating(Z, 1), rotating(X)]
+    fold_all(lines, 1, [([*behind, correcting(p)], (1, *p), behind) for p in (X, (3, 0, 1))])
+    lines.say("Before, between and behind: each rotation goes by the Pauli held there.")
+    fold_all(lines, 1, [(
+        [correcting(X), rotating(Z), correcting(X), rotating(Z), correcting(Z), rotating(X), rotating(Y, 1), correcting(Y)],
+        (1, *book_product("Y", "Z")),
+        [rotating(Z, 1), rotating(Z), rotating(X, 1), rotating(Y, 0)],
+    )])
+    zz = (0, 0, 3)
+    fold_all(lines, 2, [(
+        [correcting((0, 1, 0)), rotating(zz), correcting((0, 2, 0)), rotating(zz), rotating(Z)],
+        (2, 0, 3, 0),
+        [rotating(zz, 1), rotating(zz), rotating(Z, 1)],
+    )])
+
+
+def folding_promotions(lines):
+    lines.say("Corrections before and behind promotions: identity on the new qubit, then a letter there too.")
+    fold_all(lines, 1, [
+        ([correcting(X), promoting()], (2, 0, 1, 0), [promoting()]),
+        ([promoting(), correcting((0, 2, 0))], (2, 0, 2, 0), [promoting()]),
+        (
+            [correcting(X), promoting(-0.0, 1.0), correcting((0, 2, 1)), rotating((0, 0, 2)), rotating((0, 0, 3))],
+            (2, 2, 3, 1),
+            [promoting(-0.0, 1.0), rotating((0, 0, 2), 1), rotating((0, 0, 3))],
+        ),
+    ])
+    fold_all(lines, 0, [
+        ([correcting((1, 0, 0)), promoting(), correcting(Y)], (1, 2, 1, 1), [promoting()]),
+        ([correcting((3, 0, 0)), (12, promoting()), correcting((3, 2048, 1))], (12, 2, 2048, 1), [(12, promoting())]),
+    ])
+
+
+def fold_past(lines, cases, measured, before=()):
+    """One qubit measured, by the tables of merged corrections: B and then the projection; A, B and then it, which holds B·A."""
+    seen = set()
+    for branch, b, a, end_of_b, _, end in cases:
+        for first, (phase, flag) in (([b], end_of_b), ([a, b], end)):
+            new = branch if flag is None else flag
+            if (branch, *first) not in seen:
+                steps = [*map(correcting, first), *before, projecting(measured, 0, branch)]
+                fold_all(lines, 1, [(steps, (0, phase, 0, 0), [*before, projecting(measured, 0, new)])])
+            seen.add((branch, *first))
+
+
+def folding_projections(lines):
+    lines.say("Corrections before an X projection and a Z projection, of either branch; the pivot met and not.")
+    fold_past(lines, PAST_X, X)
+    fold_past(lines, PAST_Z, Z)
+    lines.say("A quarter turn of Z between: X becomes Y.")
+    fold_past(lines, TURNED_PAST_X, X, [turning(Z)])
+    lines.say("Behind it: the branch stays.")
+    for branch in (0, 1):
+        step = projecting(X, 0, branch)
+        fold_all(lines, 1, [([step, correcting((3, 0, 0))], (0, 3, 0, 0), [step])])
+
+
+def folding_between(lines):
+    xx = (0, 3, 0)
+    lines.say("Before and between projections: neither pivot met; both; the second alone; letters above and below the pivot.")
+    fold_all(lines, 2, [
+        (
+            [correcting(Z), projecting(X), correcting(X), projecting(Z)],
+            (0, *I),
+            [projecting(X, 0, 1), projecting(Z, 0, 1)],
+        ),
+        # X on the first is -X on what is left, Z·(-X) is -i Y, and -i Y·Z with the branch 1 is -X.
+        (
+            [correcting(X), projecting(xx, 0, 1), correcting(Z), projecting(Z)],
+            (0, 2, 0, 0),
+            [projecting(xx, 0, 1), projecting(Z, 0, 1)],
+        ),
+        # Z·X flips the branch to 0, and Z·X·X is Z, of which no letter is left.
+        (
+            [projecting(xx, 1), correcting(X), correcting(Z), projecting(X, 0, 1), correcting((1, 0, 0))],
+            (0, 1, 0, 0),
+            [projecting(xx, 1), projecting(X, 0, 0)],
+        ),
+    ])
+    for q, p, pivot, branch, end, new in (
+        ((1, 7, 5), (0, 7, 0), 1, 1, (3, 0, 3), 1),
+        ((0, 2, 5), (0, 0, 7), 1, 0, (0, 0, 3), 1),
+        ((0, 5, 2), (0, 0, 7), 2, 1, (0, 1, 2), 1),
+        ((2, 5, 7), (0, 7, 0), 0, 0, (2, 1, 3), 1),
+    ):
+        fold_all(lines, 3, [([correcting(q), projecting(p, pivot, branch)], (2, *end), [projecting(p, pivot, new)])])
+
+
+def folding_turns(lines):
+    lines.say("A correction before a quarter turn: the field stays, the Pauli turns; behind it.")
+    for q, p in [*itertools.product("XYZ", "XYZ"), ("X", "-Z"), ("Y", "-X")]:
+        turned = TURNED.get((p[-1], q), q)
+        end = negative(turned) if p[0] == "-" else turned
+        step = turning(pauli_named(p))
+        fold_all(lines, 1, [([correcting(LETTERS[q]), step], (1, *pauli_named(end)), [step])])
+    lines.say("Before, between and behind: X, turned to Y, and X behind that; Z behind it, and a quarter turn that keeps it; other kinds.")
+    rest = [rotating(Z, 1), projecting(Z)]
+    fold_all(lines, 1, [
+        ([turning(Z), correcting(X)], (1, *X), [turning(Z)]),
+        ([correcting(X), turning(Z), correcting(X)], (1, *book_product("X", "Y")), [turning(Z)]),
+        ([correcting(X), turning(Z), correcting(Z), turning(X)], (1, *book_product("Z", "Y")), [turning(Z), turning(X)]),
+        # Z is turned to -Y, and Y·(-Y) is -I.
+        ([correcting(Z), turning(X), rotating(Z), correcting(Y), projecting(Z)], (0, 2, 0, 0), [turning(X), *rest]),
+        ([(4, correcting(X) + turning(Z))], (1, 2, 0, 0), [(4, turning(Z))]),
+    ])
+
+
+def folding_kinds(lines):
+    lines.say("Every kind of step, with floats of every sort, which stay.")
+    fold_all(lines, 2, [(EVERY_KIND[1:-1], (1, 3, 1, 1), [*EVERY_KIND[1:5], projecting((2, 0, 3), 0, 1, 1.25)])])
+    fold_all(lines, 0, [(FROM_NONE[1:-1], (1, *X), FROM_NONE[1:4])])
+    fold_all(lines, 1, [(DIAGONAL[1:-1], (0, *I), DIAGONAL[1:3])])
+    least, most = 5e-324, 1.7976931348623157e308
+    floats_of = lambda flag: [rotating(Z, flag, -0.0, least), rotating(Z, flag, 1.0, -1.0), promoting(-least, 0.0), projecting(Z, 0, flag, -most)]
+    fold_all(lines, 1, [([correcting(X), *floats_of(0)], (1, *I), floats_of(1))])
+
+
+def folding_lengths(lines):
+    """Up to the last byte. Y times i squares to -1."""
+    i_y, full, top = (2, 1, 1), 4095, 1 << 11
+    lines.say("Corrections alone: 3,276 are 65,527 bytes, the most that there is room for, and 7 are left; one fewer; one more: 14.")
+    corrections = lambda p, count: [(count, correcting(p))]
+    fold_all(lines, 1, [
+        (corrections(X, 3276), (1, *I), []),
+        (corrections(X, 3275), (1, *X), []),
+        (corrections(i_y, 3276), (1, *I), []),
+        (corrections(i_y, 3275), (1, 0, 1, 1), []),
+        ([(1638, correcting(X) + correcting(Z))], (1, 2, 0, 0), []),
+    ])
+    fold_all(lines, 12, [(corrections((1, full, full), 3276), (12, *I), []), (corrections((1, full, full), 3274), (12, 2, 0, 0), [])])
+    lines.ask(fold_line(spelled(starting(1), *corrections(X, 3277), END), HELD), "refused 14 at 0 kept")
+    lines.say("65,536 bytes, 17 rotations of them: all corrections first, one before each, X and Z in turn, all behind.")
+    flipped = [(17, rotating(Z, 1))]
+    in_turn = [(8, rotating(Z, 1) + rotating(Z)), rotating(Z, 1)]
+    longest = [
+        ([*corrections(X, 3245), (17, rotating(Z))], (1, *X), flipped),
+        ([(17, correcting(X) + rotating(Z)), *corrections(X, 3228)], (1, *X), in_turn),
+        ([(1622, correcting(X) + correcting(Z)), correcting(X), (17, rotating(Z))], (1, 2, 1, 0), flipped),
+        ([(17, rotating(Z)), *corrections(Z, 3245)], (1, *Z), [(17, rotating(Z))]),
+        # Whole rounds of quarter turns.
+        ([correcting(X), (17, rotating(X)), (3244, turning(Z))], (1, *X), [(17, rotating(X)), (3244, turning(Z))]),
+    ]
+    for steps, _, _ in longest:
+        assert length(spelled(starting(1), *steps, END)) == LONGEST
+    fold_all(lines, 1, longest)
+    long = spelled(starting(1), *longest[-1][0], END)
+    lines.ask(fold_line(long, LONGEST - 21), "refused 16 kept")
+    lines.ask(fold_line(long, HELD), folds((1, *X), 1, longest[-1][2], HELD - LONGEST + 20))
+    lines.say("Quarter turns alone, 65,527 bytes: all are left.")
+    fold_all(lines, 1, [([(3276, turning(Z))], (1, *I), [(3276, turning(Z))])])
+    lines.say("Twelve qubits: 949 times X on the top one, which is measured and made again; one more behind.")
+    measured = lambda branch: projecting((0, 0, top), 11, branch) + promoting()
+    fold_all(lines, 12, [([(949, correcting((0, top, 0)) + measured(0)), correcting((1, top, 1))], (12, 1, top, 1), [(949, measured(1))])])
+    lines.say("One byte more than 65,536, and 66,000 bytes: 14 at 0.")
+    over = spelled(starting(1), (10, rotating()), (3258, correcting()), END)
+    for text in (over, spelled(starting(1), END, (HELD - 7, bytes(1)))):
+        lines.ask(fold_line(text, HELD), "refused 14 at 0 kept")
+    lines.ask(fold_line(over, 0), "refused 14 at 0 kept")
+
+
+def folding_room(lines):
+    lines.say("16 for an output under the folded length alone; what lies past the folded run is kept. The run's own length plays no part.")
+    every = [*EVERY_KIND[1:5], projecting((2, 0, 3), 0, 1, 1.25)]
+    for run, end, left, short in (
+        (EVERY_KIND, (1, 3, 1, 1), every, (0, 7, 142)),
+        ([starting(1), (3, correcting()), END], (1, *X), [], (0, 1, 6)),
+        ([starting(1), END], (1, *I), [], (0, 6)),
+    ):
+        text, n = spelled(*run), run[0][3]
+        size, whole = length(spelled(starting(n), *left, END)), length(text)
+        for room in short:
+            lines.ask(fold_line(text, room), "refused 16 kept")
+        for room in sorted({size, size + 1, whole - 1, whole, HELD}):
+            if size <= room:
+                lines.ask(fold_line(text, room), folds(end, n, left, room - size))
+
+
+def folding_refused(lines):
+    lines.say("A refused run: its row and its place, before 16, the output kept.")
+    for place, (run, told) in enumerate(REFUSED_RUNS):
+        lines.ask(fold_line(spelled(*run), 200 * (place % 2)), f"refused {told} kept")
+    lines.say("Behind corrections, at its place in the run; faults in two fields: the first.")
+    after = [starting(2), (3, correcting())]
+    faults = [(rotating((1, 1, 0)), 7), (promoting(NAN), 8), (projecting(X, 2), 10), (correcting((0, 4, 0)), 3), (framed(5, bytes(16)), 14)]
+    for field_of, row in faults:
+        lines.ask(fold_line(spelled(*after, field_of, correcting((4, 0, 0)), END), 6 + row % 2), f"refused {row} at 64 kept")
+    lines.ask(fold_line(spelled(*after), 7), "refused 14 at 64 kept")
+    lines.ask(fold_line(spelled(*after, END, END), 0), "refused 14 at 67 kept")
+
+
+def folding_emulated(lines):
+    """As the service where the board has room, and 21 where not."""
+    lines.say("Folded by the emulator: as by the service, from no qubit, by every kind of step, up to six and on six; 16.")
+    to_six = [correcting((1, 31, 17)), promoting(), correcting((2, 32, 1)), projecting((0, 48, 1), 4), correcting(Z), promoting()]
+    on_six = [correcting((3, 63, 32)), turning((0, 32, 1)), correcting((0, 1, 63)), projecting((0, 0, 63), 5, 1)]
+    for run in (
+        [starting(0), END], EVERY_KIND, FROM_NONE, DIAGONAL, [starting(5), *to_six, END], [starting(6), *on_six, END],
+        [starting(6), (3276, correcting((1, 33, 1))), END],
+    ):
+        line = fold_line(spelled(*run), 200)
+        lines.ask(on_emulator(line), answer(line))
+    lines.ask(on_emulator(fold_line(spelled(*EVERY_KIND), 142)), "refused 16 kept")
+    lines.say("21 for a start over six and a promotion at six, before 16; the service takes them. Its own rows at their places.")
+    fold_all(lines, 7, [([correcting(X)], (7, *X), [])])
+    fold_all(lines, 6, [([correcting(X), promoting()], (7, *X), [promoting()])])
+    for room in (0, 100):
+        for run, told in (
+            ([starting(7), correcting(), END], "21 at 0"),
+            ([starting(12), END], "21 at 0"),
+            ([starting(6), correcting(), promoting(), END], "21 at 24"),
+            ([starting(5), promoting(), correcting(), promoting(), END], "21 at 43"),
+            ([starting(6), correcting((0, 64, 0)), END], "3 at 4"),
+        ):
+            lines.ask(on_emulator(fold_line(spelled(*run), room)), f"refused {told} kept")
+
+
+def folding_unread(lines):
+    lines.say("Not read: no number, two; an output of 66,001 bytes, and of the greatest number; a run of 66,001 bytes.")
+    text, state = spelled(starting(1), correcting(), END), ([0.5, 0.0], [0.0, 0.25])
+    long = spelled(starting(1), END, (HELD - 6, bytes(1)))
+    for line in (f"fold-into {text}", f"fold-into {text} 7 7", *(fold_line(text, room) for room in (HELD + 1, 2**64 - 1))):
+        lines.ask(line, "unread")
+        lines.ask(on_emulator(line), "unread")
+    for line in (fold_line(long, 7), equal_line(long, *state), equal_line(f"{text} 7", *state)):
+        lines.ask(line, "unread")
+    lines.ask(on_emulator(equal_line(f"{text} 7", *state)), "unread")
+
+
+def folding_equal(lines):
+    lines.say("A run, and the folded run with its end Pauli: corrections alone, by hand, with zeros of either sign and NaN, which move.")
+    one = [0.5, -0.0], [0.25, 0.0]
+    for steps, parts, told in (
+        ([], one, one),
+        ([correcting(X)], one, ([-0.0, 0.5], [0.0, 0.25])),
+        ([correcting(Z)], one, ([0.5, 0.0], [0.25, -0.0])),
+        ([correcting(X), correcting(Z)], one, ([-0.0, -0.5], [0.0, -0.25])),
+        ([correcting(Z), correcting(X)], one, ([0.0, 0.5], [-0.0, 0.25])),
+        ([correcting((1, 0, 0))] * 3, one, ([0.25, 0.0], [-0.5, 0.0])),
+        ([correcting(Y)] * 2, one, one),
+    ):
+        lines.ask(equal_line(spelled(starting(1), *steps, END), *parts), alike(*told))
+    # NaN and infinities are turned and moved alike.
+    line = equal_line(spelled(starting(1), correcting(X), correcting(Z), END), [NAN, 1.0], [INFINITY, -0.0])
+    lines.ask(line, alike([1.0, NAN], [-0.0, -INFINITY], "nan"))
+    lines.say("Zeros that differ in their signs count as equal: Z before a rotation by X, of zeros.")
+    line = equal_line(spelled(starting(1), correcting(Z), rotating(X), END), [0.0, 0.0], [0.0, 0.0])
+    lines.ask(line, f"0{floats([0.0] * 4)} | 1{floats([0.0, -0.0, -0.0, -0.0])} | same")
+    lines.say("Corrections before, between and behind each kind of step; the last qubit measured; the emulator alike.")
+    two = [0.1, 0.2, 0.3, 0.7], [-0.3, 0.6, 1e-310, -0.9]
+    kinds = [rotating((1, 3, 1)), turning((1, 3, 2)), promoting(), projecting((0, 3, 0), 1, 1), projecting((0, 0, 3), 0)]
+    cases = [(2, [correcting((1, 3, 1)), step, correcting((2, 1, 0)), rotating(Y)]) for step in kinds]
+    cases += [(1, [correcting(p), projecting(q, 0, branch), correcting((3, 0, 0))]) for p, q, branch in ((Y, X, 0), (X, Z, 1), (Z, Y, 0))]
+    cases += [(2, EVERY_KIND[1:-1]), (0, FROM_NONE[1:-1]), (1, DIAGONAL[1:-1])]
+    for place, (n, steps) in enumerate(cases):
+        line = equal_line(spelled(starting(n), *steps, END), *(part[: 2**n] for part in two))
+        assert answer(line).endswith(" same")
+        lines.ask(line)
+        if place % 3 == 0:
+            lines.ask(on_emulator(line), answer(line))
+    lines.say("Six qubits by both; the buffers have no room for eight. The run's refusals; 21.")
+    wide = random_state(random.Random(2), 6)
+    steps = [correcting((3, 33, 18)), rotating((1, 33, 32)), correcting((0, 0, 63)), projecting((0, 32, 1), 5)]
+    line = equal_line(spelled(starting(6), *steps, END), *wide)
+    lines.ask(line)
+    lines.ask(on_emulator(line), answer(line))
+    lines.ask(equal_line(spelled(starting(8), correcting(), END), *wide), "refused 13")
+    lines.ask(equal_line(spelled(starting(2), correcting((4, 0, 0)), END), *two), "refused 3 at 4")
+    lines.ask(on_emulator(equal_line(spelled(starting(7), correcting(), END), *wide)), "refused 21 at 0")
+    lines.ask(on_emulator(equal_line(spelled(starting(6), correcting(), promoting(), END), *wide)), "refused 21 at 24")
+
+
+def folding_infinite(lines):
+    lines.say("0 times an infinity on one side only, where E2 promises nothing: X before an X projection, a quarter turn of Y; not of Z.")
+    for step, state, verdict in (
+        (projecting(), [0.0, INFINITY], "differ"),
+        (turning(Y), [INFINITY, 0.0], "differ"),
+        (turning(Z), [INFINITY, 0.0], "same"),
+        (rotating(X, 0, 0.0, 1.0), [INFINITY, NAN], "nan"),
+    ):
+        line = equal_line(spelled(starting(1), correcting(), step, END), state, [0.0, 0.0])
+        assert answer(line).endswith(f" {verdict}")
+        lines.ask(line)
+    lines.say("An amplitude that overflows on the way. The last projection reads it, and it is times 0; or the other, which is 0.")
+    huge = [1.7976931348623157e308] * 2, [0.0, 0.0]
+    for last in (projecting(Z, 0, 0, 0.0), projecting(Z, 0, 1, 1.0)):
+        lines.ask(equal_line(spelled(starting(1), correcting(Z), rotating(Y, 0, 1.0, 1.0), last, END), *huge))
+
+
 def limits():
     lines = Lines()
     for section in (
@@ -2375,6 +2881,18 @@ def random_run(rng, n, steps, widest):
     for _ in range(steps):
         step, n = random_step(rng, n, widest)
         run.append(step)
+    return [*run, END]
+
+
+def random_corrected(rng, n, steps, widest):
+    """As random_run, with as many corrections between."""
+    run = [starting(n)]
+    for left in range(steps, -1, -1):
+        while rng.randrange(2):
+            run.append(correcting(random_phased(rng, n)))
+        if left:
+            step, n = random_step(rng, n, widest)
+            run.append(step)
     return [*run, END]
 
 
@@ -2524,6 +3042,73 @@ def count_seeking(counts, width, steps, reached, other):
             counts["both ways"] += 1
 
 
+def folded_runs():
+    """Runs with many corrections: what is left of them, by the request's way and by carrying each correction to the end; then run
+    from finite states, where E2 promises `same`, and from others; then damaged."""
+    rng, lines, counts = random.Random(40), Lines(), Counter()
+    folding(lines)
+    lines.say("Runs of every kind of step from 0 to 12 qubits, half of their fields corrections; some by the emulator too.")
+    for place in range(39):
+        n = place % 13
+        run = b"".join(random_corrected(rng, n, rng.randrange(1, 8), 6 if n < 6 else 12))
+        folded, end = fold(run, SERVICE, HELD)
+        other, last = folded_from_behind(run, SERVICE)
+        assert (folded, end.shown()) == (other, last.shown()), "both ways"
+        line = fold_line(spelled(run), len(folded) + place % 3)
+        lines.ask(line)
+        if n < 6 and place % 2:
+            lines.ask(on_emulator(line), answer(line))
+        count_folding(counts, run)
+    lines.say("From 0 to 4 qubits on finite states: the same by E2.")
+    for place in range(40):
+        n = place % 5
+        run = b"".join(random_corrected(rng, n, rng.randrange(1, 6), 5))
+        line = equal_line(spelled(run), *random_state(rng, n))
+        _, verdict, finite = folded_sides(run, SERVICE, *buffers_of(line))
+        assert finite and verdict == "same"
+        lines.ask(line)
+        count_folding(counts, run)
+    wanted = [(kind, flag) for kind in ("rotation", "quarter-turn") for flag in (0, 1)] + ["promotion", "order"]
+    wanted += [("projection", *case) for case in itertools.product((0, 1), repeat=3)]
+    assert all(counts[what] > 3 for what in wanted), counts
+    lines.say("With infinities and NaN in the state: E2 promises nothing.")
+    for place in range(12):
+        n = 1 + place % 3
+        run = random_corrected(rng, n, rng.randrange(1, 5), 4)
+        lines.ask(equal_line(spelled(*run), *random_state(rng, n, False)))
+    lines.say("Damaged.")
+    refused_runs = 0
+    for place in range(16):
+        n = place % 7
+        whole = faulty(rng, random_corrected(rng, n, rng.randrange(1, 6), 7))
+        line = fold_line(spelled(whole) if whole else spelled(), max(0, len(whole) - 10 * (place % 4)))
+        line = on_emulator(line) if place % 5 == 0 else line
+        refused_runs += answer(line).startswith("refused")
+        lines.ask(line)
+    assert 8 < refused_runs < 16
+    return lines.lines
+
+
+def count_folding(counts, run):
+    """What the Pauli meets on its way: a sign that flips, a quarter turn that turns it, a projection by its branch, whether it
+    flips and whether its pivot is met, and corrections whose product depends on the order."""
+    width, steps = walk(run, SERVICE)
+    pauli = Pauli(width, 0, 0, 0)
+    for _, step in steps:
+        kind, *rest = step
+        if kind == "correction":
+            counts["order"] += anticommute(pauli, rest[0])
+            pauli = product(rest[0], pauli)
+            continue
+        if kind == "projection":
+            counts[kind, rest[2], anticommute(pauli, rest[0]), meets(pauli, *rest[:2])] += 1
+        elif kind == "promotion":
+            counts[kind] += (pauli.x | pauli.z) > 0
+        else:
+            counts[kind, anticommute(pauli, rest[0])] += 1
+        pauli = passed(pauli, step)[1]
+
+
 def buffers_of(line):
     return [[number(int(word, 16)) for word in part.split()] for part in line.split("|")[1:]]
 
@@ -2580,8 +3165,8 @@ def faulty(rng, run):
     return bytes(whole)
 
 
-def random_text(rng, n, widest):
-    run = random_run(rng, n, rng.randrange(7), widest)
+def random_text(rng, n, widest, made=random_run):
+    run = made(rng, n, rng.randrange(7), widest)
     if rng.randrange(10) == 0:  # Another start: what fits n qubits fits more.
         run[0] = starting(rng.choice([5, 6, 6, 7, 7, 8, 12, 13, 255]))
     if rng.randrange(2):
@@ -2611,10 +3196,11 @@ def random_buffer(rng, exact):
 
 def random_line(rng):
     shares = {"check": 20, "run": 16, "carry": 16, "passing": 8, "both": 11, "step": 8, "merge": 8, "seeker": 10, "field": 4, "start": 4, "cuts": 1}
+    shares |= {"fold-into": 20, "fold-equal": 11}
     call = rng.choices(list(shares), list(shares.values()))[0]
     if call == "passing":
         return random_pass(rng)
-    if call in ("check", "run", "carry", "both", "step", "merge", "seeker") and rng.randrange(3) == 0:
+    if call in ("check", "run", "carry", "both", "step", "merge", "seeker", "fold-into", "fold-equal") and rng.randrange(3) == 0:
         # The emulator, and some of the same runs on the service: around its six qubits and few.
         line = random_run_line(rng, call, *rng.choice([(2, 6), (4, 7), (5, 6), (5, 7), (5, 8), (6, 6), (6, 7), (6, 8), (7, 8)]))
         step = f"{line} {rng.choice([6, 6, 7, 12])}" if call == "step" else line
@@ -2626,7 +3212,7 @@ def random_line(rng):
 
 def random_run_line(rng, call, n, widest):
     """A call on a run from n qubits, for either caller; a step without its limit."""
-    text, run = random_text(rng, n, widest)
+    text, run = random_text(rng, n, widest, random_corrected if call.startswith("fold-") else random_run)
     if call in ("check", "cuts", "start"):
         return f"{call} {text}"
     if call in ("field", "step"):
@@ -2649,11 +3235,16 @@ def random_run_line(rng, call, n, widest):
     if call == "seeker":
         line = seek_line(text, any_end(rng, run, n))
         return line if rng.randrange(40) else rng.choice([line + " 0", line.rpartition(" ")[0]])
+    if call == "fold-into":
+        line = fold_line(text, any_room(rng, run))
+        return line if rng.randrange(40) else rng.choice([line + " 0", line.rpartition(" ")[0]])
+    first = min(start(run) or 0, 7)  # A wider run has no room in the program's buffers.
+    if call == "fold-equal":
+        return equal_line(text, *random_state(rng, first, rng.randrange(5) > 0))
     width, *q = any_pauli(rng, n)
     if call == "carry":
         out = max(0, len(run) + rng.choice([0, 0, 0, 1, 5, -1, -len(run), 250]))
         return carry_line(text, width, q, out)
-    first = min(start(run) or 0, 7)  # A wider run has no room in the program's buffers.
     return both_line(text, width, q, *random_state(rng, first, rng.randrange(5) > 0))
 
 
@@ -2682,6 +3273,15 @@ def any_end(rng, run, n):
     return end.n, end.k, *masks
 
 
+def any_room(rng, run):
+    """Bytes of an output: those of the folded run, of the run, or around them."""
+    try:
+        size = len(fold(run, SERVICE, HELD)[0])
+    except RefusedAt:
+        size = len(run)
+    return max(0, rng.choice([size, size, size, size - 1, size + 1, size + 50, len(run), len(run) - 1, 0, HELD]))
+
+
 def random_pass(rng):
     n = rng.choice([0, 1, 2, 3, 12, 63, 64, 65, 255, 256])
     masks = 2 ** min(n, 64)
@@ -2705,7 +3305,8 @@ def kind_of(asked, told):
     name = call.removeprefix(EMULATED)
     if name == "merge" and "refused" in words:
         return f"{call} refused {words[words.index('refused') + 1]} of A"
-    return f"{call} {words[-1] if name in ('both', 'merge', 'seeker') else 'answered' if words[0].isdigit() else words[0]}"
+    judged = name in ("both", "merge", "seeker", "fold-into", "fold-equal")
+    return f"{call} {words[-1] if judged else 'answered' if words[0].isdigit() else words[0]}"
 
 
 def fuzz(program, seed, count):
@@ -2773,7 +3374,7 @@ def listings(program, seed, count):
 
 def write(crates):
     lines = [*limits(), "# ---- both ways of demand 3", *replay(), "# ---- two corrections, one carry", *merges()]
-    lines += ["# ---- starts for ends", *starts_for_ends()]
+    lines += ["# ---- starts for ends", *starts_for_ends(), "# ---- runs without corrections", *folded_runs()]
     for file, texts in (("stdin", lines), ("stdout", map(answer, lines))):
         with open(f"{crates}/run_vectors/{file}", "w") as out:
             out.write("".join(text + "\n" for text in texts))

@@ -2,7 +2,7 @@
 
 use crate::state::Buffers;
 use model::run::{Caller, EMULATOR, SERVICE};
-use naribhush::{ActivePauli, Answer, Ending, Ledger, Refusal, Survey};
+use naribhush::{ActivePauli, Answer, Ending, Folding, Ledger, Refusal, Survey};
 
 #[derive(Clone, Copy, Debug, PartialEq, Eq)]
 pub enum Who {
@@ -33,6 +33,7 @@ pub struct Names {
     pub serve: Name,
     pub carry: Name,
     pub seek: Name,
+    pub fold: Name,
 }
 
 const SERVICES: Names = Names {
@@ -52,6 +53,10 @@ const SERVICES: Names = Names {
         run: "seek",
         caller: "seek, the call's own",
     },
+    fold: Name {
+        run: "fold",
+        caller: "fold, the call's own",
+    },
 };
 
 const EMULATORS: Names = Names {
@@ -70,6 +75,10 @@ const EMULATORS: Names = Names {
     seek: Name {
         run: "seek_emulated",
         caller: "seek_emulated, the call's own",
+    },
+    fold: Name {
+        run: "fold_emulated",
+        caller: "fold_emulated, the call's own",
     },
 };
 
@@ -122,6 +131,13 @@ impl Who {
         match self {
             Who::Service => naribhush::seek_start(bytes, end),
             Who::Emulator => naribhush::seek_emulated(bytes, end),
+        }
+    }
+
+    pub fn fold(self, bytes: &[u8], out: &mut [u8]) -> Answer<Folding> {
+        match self {
+            Who::Service => naribhush::fold_run(bytes, out),
+            Who::Emulator => naribhush::fold_emulated(bytes, out),
         }
     }
 

@@ -79,15 +79,17 @@ pub fn quarter_turn(dice: &mut Dice, n: usize) -> Step {
     Step::QuarterTurn { pauli }
 }
 
+pub fn correction(dice: &mut Dice, n: usize) -> Step {
+    let pauli = pauli(dice, n);
+    Step::Correction { pauli }
+}
+
 /// A step at width n that leaves a width of `limit` or less.
 pub fn step(dice: &mut Dice, n: usize, limit: usize) -> Step {
     match dice.below(10) {
         0 | 1 if n > 0 => projection(dice, n),
         2 | 3 if n < limit => promotion(dice),
-        4 => {
-            let pauli = pauli(dice, n);
-            Step::Correction { pauli }
-        }
+        4 => correction(dice, n),
         5 | 6 => quarter_turn(dice, n),
         _ => rotation(dice, n),
     }

@@ -26,12 +26,7 @@ fn filled(width: usize, left: usize, mut next: impl FnMut(usize) -> Step) -> Run
 }
 
 pub fn corrections(dice: &mut Dice, width: usize) -> Run {
-    filled(width, 0, |n| correction(dice, n))
-}
-
-fn correction(dice: &mut Dice, n: usize) -> Step {
-    let pauli = draw::pauli(dice, n);
-    Step::Correction { pauli }
+    filled(width, 0, |n| draw::correction(dice, n))
 }
 
 pub fn rotations(dice: &mut Dice, width: usize) -> Run {
@@ -59,6 +54,14 @@ pub fn projections_at_the_end(dice: &mut Dice, width: usize) -> Run {
     run
 }
 
+/// As the long runs of E2 are.
+pub fn half_corrections(dice: &mut Dice, width: usize) -> Run {
+    filled(width, 0, |n| match dice.flip() {
+        true => draw::correction(dice, n),
+        false => draw::step(dice, n, width),
+    })
+}
+
 pub fn mixed(dice: &mut Dice, width: usize) -> Run {
     filled(width, 0, |n| draw::step(dice, n, width))
 }
@@ -77,6 +80,7 @@ mod tests {
             quarter_turns,
             projections_and_promotions,
             projections_at_the_end,
+            half_corrections,
             mixed,
         ];
         for (at, kind) in kinds.into_iter().enumerate() {

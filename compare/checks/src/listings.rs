@@ -4,7 +4,7 @@
 use crate::lent::Lender;
 use crate::offers::length_about;
 use crate::outcomes::Outcomes;
-use crate::patterns::{filling_bytes, hex};
+use crate::patterns::{filling_bytes, hex, written_at_start};
 use model::dice::Dice;
 use model::run::{LIMIT, SERVICE, check};
 use naribhush::Refusal;
@@ -54,7 +54,6 @@ pub fn listing(lender: &Lender, dice: &mut Dice, bytes: &[u8], seen: &mut Outcom
 
     let input = || format!("room {room}, run {}", hex(bytes));
     seen.answered("listing", &answered, &expected, input);
-    let right =
-        out.starts_with(written.as_bytes()) && out[written.len()..] == before[written.len()..];
+    let right = written_at_start(&out, written.as_bytes(), &before);
     seen.holds("listing", "out is as it should be", right, input);
 }

@@ -222,9 +222,7 @@ pub fn damage_bytes(dice: &mut Dice, bytes: &mut Vec<u8>) {
 pub fn run_of_length(dice: &mut Dice, length: usize) -> Vec<u8> {
     let steps_length = length - run::start_field(0).len() - run::end_field().len();
     let width = dice.below(4);
-    let correction = Step::Correction {
-        pauli: draw::pauli(dice, width),
-    };
+    let correction = draw::correction(dice, width);
     let turn = draw::quarter_turn(dice, width);
     let short = correction.field().len();
     assert_eq!(short, turn.field().len());

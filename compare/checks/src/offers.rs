@@ -5,12 +5,13 @@
 use crate::callers::{BOTH, Who};
 use crate::convert::{active, answer, ending, pauli, read, survey};
 use crate::draw;
+use crate::folding::told;
 use crate::lent::Lender;
 use crate::listings::listing;
 use crate::mutate::bad_pauli;
 use crate::numbers::any_active;
 use crate::outcomes::Outcomes;
-use crate::patterns::{filling_bytes, hex};
+use crate::patterns::{filling_bytes, hex, written_at_start};
 use crate::state::{Buffers, Contents, patterns};
 use model::carry::carrying;
 use model::dice::Dice;
@@ -23,14 +24,15 @@ const LIMITS: [usize; 6] = [60, 61, 62, 256, 257, usize::MAX];
 
 pub fn offer(lender: &Lender, dice: &mut Dice, bytes: &[u8], seen: &mut Outcomes) {
     let lent = lender.lend(dice, bytes);
-    // With dice of their own: the other calls draw what they would draw without them.
-    let mut apart = Dice(!dice.0);
+    // Each with dice of its own: the other calls draw what they would draw without it.
+    let [mut for_seeks, mut for_folds] = [!dice.0, dice.0.swap_bytes()].map(Dice);
     reads(dice, &lent, seen);
     check(dice, &lent, seen);
     for who in BOTH {
         run(lender, dice, who, &lent, seen);
         carry(lender, dice, who, &lent, seen);
-        seek(&mut apart, who, &lent, seen);
+        seek(&mut for_seeks, who, &lent, seen);
+        fold(lender, &mut for_folds, who, &lent, seen);
     }
     // Seldom: a listing can be 158,644 bytes long.
     if dice.once_in(16) {
@@ -266,7 +268,7 @@ fn carry(lender: &Lender, dice: &mut Dice, who: Who, bytes: &[u8], seen: &mut Ou
     let end = answer(expected.clone(), |(_, end)| active(end));
     seen.answered(name.of(&answered), &answered, &end, input);
     let written = expected.map_or(Vec::new(), |(carried, _)| carried);
-    let right = out.starts_with(&written) && out[written.len()..] == before[written.len()..];
+    let right = written_at_start(&out, &written, &before);
     seen.holds(name.run, "out is as it should be", right, input);
 }
 
@@ -297,4 +299,28 @@ fn seek(dice: &mut Dice, who: Who, bytes: &[u8], seen: &mut Outcomes) {
         let right = serves(&run, pauli(start), end);
         seen.holds(name.run, "its start is carried to the end", right, input);
     }
+}
+
+// ------------------------------------------------------------------ folding
+
+/// About the folded run's length, or about the run's.
+fn fold_room(dice: &mut Dice, bytes: &[u8], caller: Caller) -> usize {
+    let folded = told(bytes, caller, usize::MAX).1;
+    let about = [folded.len(), bytes.len()];
+    let needed = dice.pick(&about);
+    length_about(dice, needed)
+}
+
+fn fold(lender: &Lender, dice: &mut Dice, who: Who, bytes: &[u8], seen: &mut Outcomes) {
+    let name = &who.names().fold;
+    let room = fold_room(dice, bytes, who.caller());
+    let before = filling_bytes(dice, room);
+    let mut out = lender.lend(dice, &before);
+    let answered = who.fold(bytes, &mut out);
+
+    let input = || format!("room {room}, run {}", hex(bytes));
+    let (expected, written) = told(bytes, who.caller(), room);
+    seen.answered(name.of(&answered), &answered, &expected, input);
+    let right = written_at_start(&out, &written, &before);
+    seen.holds(name.run, "out is as it should be", right, input);
 }

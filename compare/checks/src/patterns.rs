@@ -1,4 +1,4 @@
-//! Floats by their bits: fillings that a wrong access would change, and comparisons.
+//! Floats by their bits, and bytes: fillings that a wrong access would change, and comparisons.
 
 use model::dice::Dice;
 
@@ -21,6 +21,11 @@ pub fn filling(dice: &mut Dice, length: usize) -> Vec<f64> {
 
 pub fn filling_bytes(dice: &mut Dice, length: usize) -> Vec<u8> {
     (0..length).map(|_| dice.word() as u8).collect()
+}
+
+/// Whether bytes that were `before` have these written at their start, and are past them as they were.
+pub fn written_at_start(out: &[u8], written: &[u8], before: &[u8]) -> bool {
+    out.starts_with(written) && out[written.len()..] == before[written.len()..]
 }
 
 pub fn same_bits(a: &[f64], b: &[f64]) -> bool {

@@ -11,6 +11,10 @@ impl Tally {
         *self.0.entry(name).or_default() += count as u64;
     }
 
+    pub fn add_each(&mut self, names: &[&'static str]) {
+        names.iter().for_each(|name| self.add(name, 1));
+    }
+
     /// Those of these names whose case was met.
     pub fn count_met(&mut self, names: &[(bool, &'static str)]) {
         for &(met, name) in names {
@@ -27,6 +31,12 @@ impl Tally {
         let unseen = wanted.iter().filter(|name| self.count(name) == 0);
         unseen.copied().collect()
     }
+}
+
+/// The names of those that were never counted.
+pub fn unseen(counts: &[(u64, &'static str)]) -> Vec<&'static str> {
+    let unseen = counts.iter().filter(|(count, _)| *count == 0);
+    unseen.map(|(_, name)| *name).collect()
 }
 
 /// Counts by the name and by the caller whose calls were made.

@@ -23,22 +23,30 @@ pub struct Trial {
 impl Trial {
     pub fn description(&self) -> String {
         let Pauli { n, k, x, z } = self.q;
-        format!(
-            "run {}, Q: n {n} k {k} x {x:#x} z {z:#x}, re {}, im {}",
-            hex(&self.run.bytes()),
-            hex_floats(&self.state[0]),
-            hex_floats(&self.state[1]),
-        )
+        let rest = described(&self.run, &self.state);
+        format!("Q: n {n} k {k} x {x:#x} z {z:#x}, {rest}")
     }
+}
+
+/// A run and its start state.
+pub fn described(run: &Run, [re, im]: &[Vec<f64>; 2]) -> String {
+    let (run, re, im) = (hex(&run.bytes()), hex_floats(re), hex_floats(im));
+    format!("run {run}, re {re}, im {im}")
 }
 
 /// What was seen where nothing was wrong.
 pub struct Outcome {
-    pub carried: Run,
     pub finite_start: bool,
-    /// The theorem's premise: each amplitude of the carried run is finite, at the start and after each step.
+    /// The theorem's premise: each amplitude of way B's run is finite, at the start and after each step.
     pub finite: bool,
     pub parts: Parts,
+}
+
+impl Outcome {
+    /// Against the theorem: the premise holds, and some numbers are not the same.
+    pub fn is_wrong(&self) -> bool {
+        self.finite && self.parts.differing + self.parts.both_nan > 0
+    }
 }
 
 /// The parts re and im of the amplitudes at the last width, way A against way B.
@@ -59,7 +67,7 @@ pub fn ensure(holds: bool, what: &str) -> Check<()> {
 pub fn compare(lender: &Lender, dice: &mut Dice, who: Who, trial: &Trial) -> Check<Outcome> {
     let bytes = trial.run.bytes();
     let lent_run = lender.lend(dice, &bytes);
-    let seen = checked(who, trial, &lent_run)?;
+    let seen = checked(who, &trial.run, &lent_run)?;
     let (carried, end, out) = carried(lender, dice, who, trial, &lent_run)?;
     let lengths = lengths(dice, seen);
 
@@ -67,34 +75,61 @@ pub fn compare(lender: &Lender, dice: &mut Dice, who: Who, trial: &Trial) -> Che
     let a = way_a(lender, dice, who, trial, &lent_run, seen, &contents)?;
     ensure(lent_run[..] == bytes, "the lent run was written")?;
 
-    let contents = with_state(dice, &trial.state, lengths);
-    let mut b = Buffers::lend(lender, dice, &contents);
-    let carried_run = &out[..bytes.len()];
-    ran(&mut b, who, carried_run, seen, &contents, "carried run")?;
-    let finite_start = trial.state.iter().all(|part| all_finite(part));
-    let finite_steps = step_by_step(lender, dice, who, &carried, &contents, &b)?;
-    spelled_out(lender, dice, who, &carried, &contents, &b)?;
-    corrected(&mut b, end, seen.width)?;
+    let b = WayB {
+        name: "carried run",
+        run: &carried,
+        bytes: &out[..bytes.len()],
+        end,
+    };
+    b.against(lender, dice, who, &a, &trial.state)
+}
 
-    Ok(Outcome {
-        carried,
-        finite_start,
-        finite: finite_start && finite_steps,
-        parts: compare_parts(&a, &b, seen.width),
-    })
+/// A run that is run instead of another, and the Pauli that is applied behind it.
+pub struct WayB<'a> {
+    pub name: &'static str,
+    pub run: &'a Run,
+    pub bytes: &'a [u8],
+    pub end: ActivePauli,
+}
+
+impl WayB<'_> {
+    /// From the start state, against what way A left, in buffers of the same lengths.
+    pub fn against(
+        &self,
+        lender: &Lender,
+        dice: &mut Dice,
+        who: Who,
+        a: &Buffers,
+        state: &[Vec<f64>; 2],
+    ) -> Check<Outcome> {
+        let (run, seen) = (self.run, self.run.survey());
+        let lengths = a.0.each_ref().map(|buffer| buffer.len());
+        let contents = with_state(dice, state, lengths);
+        let mut b = Buffers::lend(lender, dice, &contents);
+        ran(&mut b, who, self.bytes, seen, &contents, self.name)?;
+        let finite_start = state.iter().all(|part| all_finite(part));
+        let finite_steps = step_by_step(lender, dice, who, run, &contents, &b)?;
+        spelled_out(lender, dice, who, run, &contents, &b)?;
+        corrected(&mut b, self.end, seen.width)?;
+        Ok(Outcome {
+            finite_start,
+            finite: finite_start && finite_steps,
+            parts: compare_parts(a, &b, seen.width),
+        })
+    }
 }
 
 /// Buffers as long as the run needs them, or a little longer.
-fn lengths(dice: &mut Dice, seen: Survey) -> [usize; 4] {
+pub fn lengths(dice: &mut Dice, seen: Survey) -> [usize; 4] {
     let mut some = |needed: usize| needed + dice.pick(&[0, 0, 1, 5]);
     let state = 1 << seen.greatest;
     [state, state, seen.scratch, seen.scratch].map(&mut some)
 }
 
-fn checked(who: Who, trial: &Trial, lent_run: &[u8]) -> Check<Survey> {
-    let seen = trial.run.survey();
+pub fn checked(who: Who, run: &Run, lent_run: &[u8]) -> Check<Survey> {
+    let seen = run.survey();
     let checked = who.check(lent_run);
-    let right = checked == Ok(survey(seen)) && seen.steps == trial.run.steps.len();
+    let right = checked == Ok(survey(seen)) && seen.steps == run.steps.len();
     ensure(right, &format!("check: {checked:?}, not {seen:?}"))?;
     Ok(seen)
 }
@@ -131,7 +166,7 @@ fn carried<'a>(
     Ok((carried, active(end), out))
 }
 
-fn differs_in_flags_alone(run: &Run, bytes: &[u8], carried: &[u8]) -> bool {
+pub fn differs_in_flags_alone(run: &Run, bytes: &[u8], carried: &[u8]) -> bool {
     let mut rest = carried.to_vec();
     for at in run.flags_at() {
         if rest[at] > 1 {
@@ -168,7 +203,7 @@ fn corrected(buffers: &mut Buffers, pauli: ActivePauli, width: usize) -> Check<(
 }
 
 /// The run, its answer, and nothing written past what the check says that it needs.
-fn ran(
+pub fn ran(
     buffers: &mut Buffers,
     who: Who,
     bytes: &[u8],

@@ -130,28 +130,8 @@ mod tests {
     use super::*;
     use crate::carry::carry;
     use crate::dice::Dice;
-    use crate::pauli::parity;
     use crate::run::{EMULATOR, SERVICE, Step};
-
-    const PROMOTION: Step = Step::Promotion { c: 0, q: 0 };
-
-    fn pauli(n: usize, k: u8, x: u64, z: u64) -> Pauli {
-        Pauli { n, k, x, z }
-    }
-
-    fn projection(pauli: Pauli, pivot: u8, branch: u8) -> Step {
-        Step::Projection {
-            pauli,
-            pivot,
-            branch,
-            invnorm: 0,
-        }
-    }
-
-    fn run(width: usize, steps: &[Step]) -> Run {
-        let steps = steps.to_vec();
-        Run { width, steps }
-    }
+    use crate::samples::{PROMOTION, any_pauli, any_run, pauli, projection, run};
 
     /// What both callers answer of a run that both take.
     fn sought(run: &Run, end: Pauli) -> Result<(), u8> {
@@ -328,59 +308,6 @@ mod tests {
     }
 
     // ------------------------------------------------------ random runs
-
-    fn any_pauli(dice: &mut Dice, n: usize) -> Pauli {
-        let masks = 1 << n;
-        let (x, z) = (dice.below(masks) as u64, dice.below(masks) as u64);
-        pauli(n, dice.below(4) as u8, x, z)
-    }
-
-    fn hermitian(dice: &mut Dice, n: usize) -> Pauli {
-        let p = any_pauli(dice, n);
-        let k = (parity(p.x, p.z) + 2 * dice.below(2) as u8) % 4;
-        Pauli { k, ..p }
-    }
-
-    /// Of a Pauli that is not the identity; the width is not 0.
-    fn any_projection(dice: &mut Dice, n: usize) -> Step {
-        let mut p = hermitian(dice, n);
-        if p.is_identity() {
-            p.z = 1;
-        }
-        let mask = if p.x != 0 { p.x } else { p.z };
-        let pivots: Vec<u8> = (0..n as u8).filter(|q| mask >> q & 1 == 1).collect();
-        projection(p, dice.pick(&pivots), dice.below(2) as u8)
-    }
-
-    fn any_step(dice: &mut Dice, n: usize, limit: usize) -> Step {
-        match dice.below(8) {
-            0 | 1 if n > 0 => any_projection(dice, n),
-            2 | 3 if n < limit => PROMOTION,
-            4 => Step::Correction {
-                pauli: any_pauli(dice, n),
-            },
-            5 => Step::Rotation {
-                pauli: hermitian(dice, n),
-                sign: dice.below(2) as u8,
-                c: 0,
-                s: 0,
-            },
-            _ => Step::QuarterTurn {
-                pauli: hermitian(dice, n),
-            },
-        }
-    }
-
-    fn any_run(dice: &mut Dice, limit: usize) -> Run {
-        let start = dice.below(limit + 1);
-        let (mut width, mut steps) = (start, Vec::new());
-        for _ in 0..dice.below(13) {
-            let step = any_step(dice, width, limit);
-            width = step.width_after(width);
-            steps.push(step);
-        }
-        run(start, &steps)
-    }
 
     /// On every end of up to 3 qubits.
     #[test]

@@ -136,6 +136,13 @@ pub struct Ending {
     pub steps: usize,
 }
 
+/// What folding answers: the end Pauli, and the folded run's length in bytes.
+#[derive(Clone, Copy, Debug, PartialEq, Eq, Default)]
+pub struct Folding {
+    pub end: ActivePauli,
+    pub size: usize,
+}
+
 #[repr(C)]
 #[derive(Clone, Copy, Debug, PartialEq, Eq, Default)]
 pub struct Ledger {
@@ -183,6 +190,13 @@ struct SeenEnding {
 }
 
 #[repr(C)]
+struct SeenFolding {
+    verdict: Verdict,
+    end: ActivePauli,
+    size: usize,
+}
+
+#[repr(C)]
 struct SeenServed {
     ending: SeenEnding,
     ledger: Ledger,
@@ -219,6 +233,15 @@ impl SeenEnding {
         self.verdict.answer(Ending {
             width: self.width,
             steps: self.steps,
+        })
+    }
+}
+
+impl SeenFolding {
+    fn answer(self) -> Answer<Folding> {
+        self.verdict.answer(Folding {
+            end: self.end,
+            size: self.size,
         })
     }
 }
@@ -267,6 +290,7 @@ unsafe extern "C" {
     fn naribhush_run(run: *const u8, len: usize, re: *mut f64, re_len: usize, im: *mut f64, im_len: usize, scratch_re: *mut f64, scratch_re_len: usize, scratch_im: *mut f64, scratch_im_len: usize) -> SeenEnding;
     fn naribhush_carry(run: *const u8, len: usize, pauli: ActivePauli, out: *mut u8, out_len: usize) -> Seen<ActivePauli>;
     fn naribhush_seek(run: *const u8, len: usize, end: ActivePauli) -> Seen<ActivePauli>;
+    fn naribhush_fold(run: *const u8, len: usize, out: *mut u8, out_len: usize) -> SeenFolding;
     fn naribhush_past(pauli: ActivePauli, step: GivenStep) -> Seen<Past>;
     fn naribhush_listing(run: *const u8, len: usize, out: *mut u8, out_len: usize) -> Seen<usize>;
     fn naribhush_serve(ledger: Ledger, run: *const u8, len: usize, re: *mut f64, re_len: usize, im: *mut f64, im_len: usize, scratch_re: *mut f64, scratch_re_len: usize, scratch_im: *mut f64, scratch_im_len: usize) -> SeenServed;
@@ -276,6 +300,7 @@ unsafe extern "C" {
     fn naribhush_run_emulated(run: *const u8, len: usize, re: *mut f64, re_len: usize, im: *mut f64, im_len: usize, scratch_re: *mut f64, scratch_re_len: usize, scratch_im: *mut f64, scratch_im_len: usize) -> SeenEnding;
     fn naribhush_carry_emulated(run: *const u8, len: usize, pauli: ActivePauli, out: *mut u8, out_len: usize) -> Seen<ActivePauli>;
     fn naribhush_seek_emulated(run: *const u8, len: usize, end: ActivePauli) -> Seen<ActivePauli>;
+    fn naribhush_fold_emulated(run: *const u8, len: usize, out: *mut u8, out_len: usize) -> SeenFolding;
     fn naribhush_serve_emulated(ledger: Ledger, run: *const u8, len: usize, re: *mut f64, re_len: usize, im: *mut f64, im_len: usize, scratch_re: *mut f64, scratch_re_len: usize, scratch_im: *mut f64, scratch_im_len: usize) -> SeenServed;
 }
 
@@ -574,6 +599,11 @@ pub fn seek_start(run: &[u8], end: ActivePauli) -> Answer<ActivePauli> {
     unsafe { naribhush_seek(run.as_ptr(), run.len(), end) }.answer()
 }
 
+/// The run without its corrections, to the start of `out`.
+pub fn fold_run(run: &[u8], out: &mut [u8]) -> Answer<Folding> {
+    unsafe { naribhush_fold(run.as_ptr(), run.len(), out.as_mut_ptr(), out.len()) }.answer()
+}
+
 /// The Pauli past one step.
 pub fn past(pauli: ActivePauli, step: GivenStep) -> Answer<Past> {
     unsafe { naribhush_past(pauli, step) }.answer()
@@ -658,6 +688,12 @@ pub fn carry_emulated(run: &[u8], pauli: ActivePauli, out: &mut [u8]) -> Answer<
 
 pub fn seek_emulated(run: &[u8], end: ActivePauli) -> Answer<ActivePauli> {
     unsafe { naribhush_seek_emulated(run.as_ptr(), run.len(), end) }.answer()
+}
+
+pub fn fold_emulated(run: &[u8], out: &mut [u8]) -> Answer<Folding> {
+    let seen =
+        unsafe { naribhush_fold_emulated(run.as_ptr(), run.len(), out.as_mut_ptr(), out.len()) };
+    seen.answer()
 }
 
 /// The run's answer, and the ledger behind it, which counts none of these.

@@ -2,8 +2,7 @@
 use mathlib.Core.Path.{_≡_, refl, sym, ap, _∙_}
 use mathlib.Core.List.{List, _++_}
 use Prim.Native.Nat.{ℕ}
-use native.Mathlib.Omega.{arith}
-use lib.ListN.{length, take, drop, length-append}
+use lib.ListN.{length, take, drop}
 use lib.Seq.{take-length}
 use Rattle.answers.specs.Answer.{Answer}
 use Rattle.answers.specs.Answer.Answer.{accepted, refused, refusedAt}
@@ -16,10 +15,9 @@ use Rattle.runlaws.specs.Flags.{flagged}
 use Rattle.runlaws.specs.Run.{runOf}
 use Rattle.runlaws.specs.Calls.{onRun, checkedRunOf, checkingWithStart, carryingRow, carriedRun, carrying}
 use Rattle.runlaws.specs.Mapped.{mapped-refused}
-use Rattle.runlaws.specs.OnStart.{runIn, checked-read, checked-start}
+use Rattle.runlaws.specs.OnStart.{runIn, OnStart, checked-read, checked-start}
 use Rattle.runlaws.specs.Outcomes.{carrying-passed}
 use Rattle.runlaws.specs.Flagged.{carried-append}
-use Rattle.carrier.specs.Ready.{Ready}
 
 -- ---- the answers
 
@@ -45,17 +43,14 @@ module _ (caller : Caller) (s : List ℕ) (Q : Pauli) (out : List ℕ) where
         rw (checked-read caller s checked)
         (refusing (carryingRow Q (R .width) (length s) (length out)) (endPauli Q (R .steps)) (carriedRun Q R s ++ drop (length s) out) out r row-is ne)
 
+    pub ready : r ≡ 0 → OnStart caller s Q
+    ready none =
+        let known = carrying-passed Q width (length s) (length out) (sym is ∙ none) in
+        record { read = checked-read caller s checked; admitted = known .0; width = known .1 ∙ checked-start caller s checked }
+
     module _ (none : r ≡ 0) {copy : List ℕ} (copied : copy ≡ take (length s) s ++ drop (length s) out) where
       whole : copy ≡ s ++ drop (length s) out
       whole = copied ∙ rw (take-length s)
-
-      pub ready : Ready caller s Q copy
-      ready =
-          let known = carrying-passed Q width (length s) (length out) (sym is ∙ none) in
-          record {
-            begins = record { read = checked-read caller s checked; admitted = known .0; width = known .1 ∙ checked-start caller s checked };
-            room = rw whole (simp length-append (omega arith));
-          }
 
       pub done : (Q' : Pauli) (out' : List ℕ) → Q' ≡ endPauli Q (runIn caller s .steps) → out' ≡ flagged 4 (carriedSteps Q (runIn caller s .steps)) copy
           → Carries (accepted Q') out'

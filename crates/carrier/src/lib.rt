@@ -7,20 +7,15 @@ use checker::Checked;
 use passing::PassAnswer;
 use steps::Cursor;
 use steps::Read;
-use steps::Step;
 ghost use mathlib.Core.Path.{_≡_};
-ghost use Prim.Native.Nat.{_+_, _≤_};
-ghost use lib.ListN.{length};
 ghost use Rattle.activepauli.specs.Active.{activeOf};
 ghost use Rattle.framelaws.specs.Caller.{service, emulator};
 ghost use Rattle.framelaws.specs.Carrying.{carriedSteps, endPauli};
-ghost use Rattle.runlaws.specs.Flags.{fieldSize, flagAt, flagged};
+ghost use Rattle.runlaws.specs.Flags.{flagged};
 ghost use Rattle.runlaws.specs.Calls.{carrying, carryingRow};
-ghost use Rattle.runlaws.specs.OnStart.{runIn};
+ghost use Rattle.runlaws.specs.OnStart.{runIn, OnStart};
 ghost use Rattle.callers.specs.Meaning.{callerOf};
-ghost use Rattle.steps.specs.Meaning.{stepOf};
 ghost use Rattle.carrier.specs.Meaning.{carryAnswerOf};
-ghost use Rattle.carrier.specs.Ready.{Ready};
 
 // The end Pauli; or the run's own refusal with its place, or 3, 4 or 16.
 pub enum CarryAnswer {
@@ -28,12 +23,6 @@ pub enum CarryAnswer {
     Refused(u8),
     RefusedAt(u8, usize),
 }
-
-// Where a rotation's field has its sign.
-const SIGN_AT: usize = 20;
-
-// Where a projection's field has its branch.
-const BRANCH_AT: usize = 21;
 
 // A run of the service. The output holds the run with its new signs and branches, and what it held past the
 // run's length; on a refusal it stays as it was.
@@ -83,7 +72,7 @@ fn carrying_row(pauli: ActivePauli, width: usize, size: usize, room: usize) -> u
 // Past each step of a run that was checked, of which `out` holds a copy: the Pauli at the end. What is no
 // step is the run's end.
 fn carry_steps(run: &[u8], pauli: ActivePauli, out: &mut [u8], caller: Caller) -> ActivePauli
-    requires { ⌜ Ready (callerOf caller) (now run) (activeOf pauli) (now out) ⌝ }
+    requires { ⌜ OnStart (callerOf caller) (now run) (activeOf pauli) ⌝ }
     ensures { λ r. let Q = activeOf pauli in let steps = runIn (callerOf caller) (now (run .entry)) .steps in
         ⌜ (activeOf r ≡ endPauli Q steps) × (now (out .exit) ≡ flagged 4 (carriedSteps Q steps) (now (out .entry))) ⌝ }
 {
@@ -101,27 +90,9 @@ fn carry_steps(run: &[u8], pauli: ActivePauli, out: &mut [u8], caller: Caller) -
             // Never: a Pauli on the state's qubits is taken past any step that was checked.
             return held;
         };
-        write_flag(out, cursor.at, carried);
+        flags::write_flag(out, cursor.at, carried);
         held = behind;
         cursor = next;
     }
     held
-}
-
-// The step's sign or branch, written where the field that begins at `at` has it.
-fn write_flag(out: &mut [u8], at: usize, step: Step)
-    requires { ⌜ at + fieldSize (stepOf step) ≤ length (now out) ⌝ }
-    ensures { λ _. ⌜ now (out .exit) ≡ flagAt at (stepOf step) (now (out .entry)) ⌝ }
-{
-    match step {
-        Step::Rotation(_, sign, _, _) => {
-            out[at + SIGN_AT] = sign as u8;
-        }
-        Step::Projection(_, _, branch, _) => {
-            out[at + BRANCH_AT] = branch as u8;
-        }
-        Step::Promotion(_, _) => {}
-        Step::Correction(_) => {}
-        Step::QuarterTurn(_) => {}
-    }
 }

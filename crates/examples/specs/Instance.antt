@@ -76,7 +76,7 @@ run = steps 0 0 0 0 1
 abbrev pub here : Memory
 here = memoryOf (one ∷ bytes.zero ∷ bytes.zero ∷ bytes.zero ∷ []) (bytes.zero ∷ bytes.zero ∷ bytes.zero ∷ bytes.zero ∷ []) (bytes.zero ∷ bytes.zero ∷ []) (bytes.zero ∷ bytes.zero ∷ [])
 
-abbrev there : Memory
+abbrev pub there : Memory
 there = memoryOf (one ∷ bytes.zero ∷ one ∷ one ∷ one ∷ []) (bytes.zero ∷ bytes.zero ∷ one ∷ one ∷ []) (one ∷ one ∷ []) (one ∷ one ∷ one ∷ [])
 
 abbrev ending : Ending
@@ -114,7 +114,7 @@ runs-there : running service run there .answer ≡ accepted ending
 unfolding running onRun memoryRow surveyOf survey surveyFrom surveyed mixedAmplitudes roomFor room roomRow runOf begun startWidth mapped walk follow ended readAt readField judged judgedBy unless decoded fieldAt isWhole bodyLength number floatAt pauliAt fits hermitian coefficient ys widthAfter stepRow rotationStepRow promotionStepRow projectionStepRow rotationKernelRow measurementRow hermitianRow widthRow unitRow promotedWidthRow pivotRow pivotMask inUnit row first answered left le neg ofBits digit overlap parity ones onesIn
 runs-there = refl
 
-agreeing : Agreeing 1 (here .state) (there .state)
+pub agreeing : Agreeing 1 (here .state) (there .state)
 unfolding point
 agreeing = record { at = at }
   where
@@ -143,14 +143,14 @@ reads : runOf service carried ≡ accepted (record { width = 1; steps = carriedL
 unfolding runOf begun startWidth mapped walk follow ended readAt readField judged judgedBy unless decoded fieldAt isWhole bodyLength number floatAt pauliAt fits hermitian coefficient ys widthAfter stepRow rotationStepRow promotionStepRow projectionStepRow rotationKernelRow measurementRow hermitianRow widthRow unitRow promotedWidthRow pivotRow pivotMask inUnit row first answered left le neg ofBits digit overlap parity ones onesIn
 reads = refl
 
-none : (S : State) → Finite (point S 0) → FiniteState 0 S
+pub none : (S : State) → Finite (point S 0) → FiniteState 0 S
 none S f = record { at = at }
   where
     at : (b : ℕ) → b < 2 ^ 0 → Finite (point S b)
     at zero h = f
     at (suc b) h = absurd (omega arith)
 
-single : (S : State) → Finite (point S 0) → Finite (point S 1) → FiniteState 1 S
+pub single : (S : State) → Finite (point S 0) → Finite (point S 1) → FiniteState 1 S
 single S f g = record { at = at }
   where
     at : (b : ℕ) → b < 2 ^ 1 → Finite (point S b)
@@ -158,7 +158,7 @@ single S f g = record { at = at }
     at (suc zero) h = g
     at (suc (suc b)) h = absurd (omega arith)
 
-double : (S : State) → Finite (point S 0) → Finite (point S 1) → Finite (point S 2) → Finite (point S 3) → FiniteState 2 S
+pub double : (S : State) → Finite (point S 0) → Finite (point S 1) → Finite (point S 2) → Finite (point S 3) → FiniteState 2 S
 double S f g h i = record { at = at }
   where
     at : (b : ℕ) → b < 2 ^ 2 → Finite (point S b)

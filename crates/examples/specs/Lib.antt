@@ -5,4 +5,5 @@ pub mod Instance
 pub mod Emulator
 pub mod TwoCorrections
 pub mod StartForEnd
+pub mod WithoutCorrections
 pub mod Seven

@@ -45,14 +45,14 @@ use Rattle.examples.specs.Starred.{phase}
 -- ---- by hand
 
 -- on one qubit and on two: i^k X^x Z^z
-abbrev one : ℕ → ℕ → ℕ → Pauli
+abbrev pub one : ℕ → ℕ → ℕ → Pauli
 one k x z = record { n = 1; k = k; x = x; z = z }
 
-abbrev two : ℕ → ℕ → ℕ → Pauli
+abbrev pub two : ℕ → ℕ → ℕ → Pauli
 two k x z = record { n = 2; k = k; x = x; z = z }
 
 -- no step; a quarter turn of X; a projection of X on branch 1; a qubit promoted; and then a quarter turn of XX; a projection of XX; two promotions from no qubit
-abbrev alone : ℕ → List ℕ
+abbrev pub alone : ℕ → List ℕ
 alone n = runFrom n (λ rest. rest)
 
 abbrev turned : List ℕ

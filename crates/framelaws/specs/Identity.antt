@@ -39,7 +39,7 @@ module _ (n e : ℕ) where
       let small : flag ≤ 1 = ltb-false 1 flag (row-passed (ltb 1 flag) 14 0 (lit< tt) (first-passed rows (row (ltb 1 flag) 14 0) h .1) .0) in
       rw (phase-anti P) (omega arith)
 
-  phase-step : (caller : Caller) (t : Step Float) → stepRow caller n t ≡ 0 → carriedStep (phaseOn n e) t ≡ t
+  pub phase-step : (caller : Caller) (t : Step Float) → stepRow caller n t ≡ 0 → carriedStep (phaseOn n e) t ≡ t
   unfolding stepRow rotationStepRow projectionStepRow carriedStep
   phase-step caller (rotation P sign c s) h = ap (λ (f : ℕ). rotation P f c s) (phase-flag P _ sign h)
   phase-step caller (promotion c q) h = refl
@@ -63,7 +63,7 @@ module _ (n e : ℕ) where
       none : dropBit p 0 ≡ 0
       none = ap (dropBit p) (sym (xor-self 0)) ∙ drop-xor p 0 0 ∙ xor-self (dropBit p 0)
 
-  phase-passed : {R : Type 0} → e ≤ 3 → (t : Step R) → passed (phaseOn n e) t ≡ phaseOn (widthAfter n t) e
+  pub phase-passed : {R : Type 0} → e ≤ 3 → (t : Step R) → passed (phaseOn n e) t ≡ phaseOn (widthAfter n t) e
   unfolding passed widthAfter widened absorbed turnedPast turnedBy raised
   phase-passed small (rotation P sign c s) = refl
   phase-passed small (promotion c q) = refl

@@ -35,4 +35,7 @@ pub mod CarriedPhase
 pub mod Seeking
 pub mod Sought
 pub mod List
+pub mod Folding
+pub mod Folded
+pub mod FoldedSteps
 pub mod Acted

@@ -1,5 +1,6 @@
 // The calls, by what they are lent.
 use crate::both;
+use crate::fold;
 use crate::merge;
 use crate::seek;
 use crate::write;
@@ -24,7 +25,8 @@ pub(crate) fn call(call: u8, run: &[u8], words: [u64; 12], rest: &[u8]) {
         b'k' => write::check(checker::check_run(run)),
         b'K' => write::check(checker::check_emulated(run)),
         b's' => cuts(run),
-        b'y' | b'Y' => carry(run, words, who(call)),
+        b'y' | b'Y' => with_output(call, run, words, words[4]),
+        b'o' | b'O' => with_output(call, run, words, words[0]),
         b'e' | b'E' => merge::merged(
             run,
             read::first_pauli(words),
@@ -63,14 +65,24 @@ fn cuts(run: &[u8]) {
     }
 }
 
-fn carry(run: &[u8], words: [u64; 12], caller: Caller) {
-    let size = form::index(words[4]);
+// Carrying and folding are lent an output of the length that a word says.
+fn with_output(call: u8, run: &[u8], words: [u64; 12], word: u64) {
+    let size = form::index(word);
     if 66000 < size {
         show::unread();
         return;
     }
     let mut space = crate::room(0xee);
-    carry_to(run, read::first_pauli(words), &mut space[0..size], caller);
+    if (call == b'y') | (call == b'Y') {
+        carry_to(
+            run,
+            read::first_pauli(words),
+            &mut space[0..size],
+            who(call),
+        );
+    } else {
+        fold::into(run, &mut space[0..size], who(call));
+    }
 }
 
 fn carry_to(run: &[u8], pauli: ActivePauli, out: &mut [u8], caller: Caller) {
@@ -141,10 +153,10 @@ fn with_im(call: u8, run: &[u8], words: [u64; 12], text: &[u8], re: &mut [f64]) 
     let mut im = [0.0; 160];
     let part = read::floats(text, &mut im);
     let n = part.count;
-    if (call == b'h') | (call == b'H') {
-        both::carried(run, read::first_pauli(words), re, &im[0..n], who(call));
-    } else {
-        with_scratch(run, words, re, &mut im[0..n], who(call));
+    match call {
+        b'h' | b'H' => both::carried(run, read::first_pauli(words), re, &im[0..n], who(call)),
+        b'l' | b'L' => fold::equal(run, re, &im[0..n], who(call)),
+        _ => with_scratch(run, words, re, &mut im[0..n], who(call)),
     }
 }
 

@@ -46,14 +46,29 @@ fn sides(
     let mut left_re = [0.0; 160];
     let mut left_im = [0.0; 160];
     let left = fired_and_run(run, pauli, re, im, &mut left_re, &mut left_im, caller);
+    against(left, &left_re, &left_im, carried, end, re, im, caller);
+}
+
+// One side that has been run, against a run from the same floats and then a Pauli fired.
+pub(crate) fn against(
+    left: RunAnswer,
+    left_re: &[f64; 160],
+    left_im: &[f64; 160],
+    run: &[u8],
+    end: ActivePauli,
+    re: &[f64],
+    im: &[f64],
+    caller: Caller,
+) {
     let RunAnswer::Finished { width, steps: _ } = left else {
         write::ran(left);
         return;
     };
     let mut right_re = [7.0; 160];
     let mut right_im = [7.0; 160];
-    run_and_fired(carried, end, re, im, &mut right_re, &mut right_im, caller);
-    write::sides(dimension(width), &left_re, &left_im, &right_re, &right_im);
+    run_from(run, re, im, &mut right_re, &mut right_im, caller);
+    fired(end, &mut right_re, &mut right_im);
+    write::sides(dimension(width), left_re, left_im, &right_re, &right_im);
 }
 
 fn fired_and_run(
@@ -71,19 +86,17 @@ fn fired_and_run(
     ran(run, to_re, to_im, caller)
 }
 
-fn run_and_fired(
+pub(crate) fn run_from(
     run: &[u8],
-    pauli: ActivePauli,
     re: &[f64],
     im: &[f64],
     to_re: &mut [f64; 160],
     to_im: &mut [f64; 160],
     caller: Caller,
-) {
+) -> RunAnswer {
     copy(re, to_re);
     copy(im, to_im);
-    ran(run, to_re, to_im, caller);
-    fired(pauli, to_re, to_im);
+    ran(run, to_re, to_im, caller)
 }
 
 // The floats, written to the start of `to` as far as it reaches.

@@ -94,7 +94,7 @@ pub(crate) fn equal(a: ActivePauli, b: ActivePauli) -> bool
 }
 
 // Whether the two hold the same bytes.
-fn same(left: &[u8], right: &[u8]) -> bool
+pub(crate) fn same(left: &[u8], right: &[u8]) -> bool
     ensures { λ r. ⌜ (r ≡ true) ↔ (now (left .entry) ≡ now (right .entry)) ⌝ }
 {
     if left.len() != right.len() {

@@ -237,7 +237,8 @@ fn change(at: usize, old: u8, new: u8) {
     io::print_hex(STDOUT_FILENO, new as u64, 2);
 }
 
-fn tail(out: &[u8]) {
+// Whether the bytes are those that were lent.
+pub(crate) fn tail(out: &[u8]) {
     let mut i = 0;
     while i < out.len() {
         if out[i] != 0xee {
@@ -247,6 +248,46 @@ fn tail(out: &[u8]) {
         i += 1;
     }
     word(b" kept");
+}
+
+// The end Pauli and the folded length; the folded run, and whether the bytes past it are those that were lent.
+pub(crate) fn folded(end: ActivePauli, size: usize, out: &[u8]) {
+    word(b"folded");
+    write::pauli(end);
+    write::number(size as u64);
+    if out.len() < size {
+        return;
+    }
+    folded_run(&out[0..size]);
+    tail(&out[size..]);
+}
+
+// The bytes, or where they are more than 400 a digest of them.
+fn folded_run(bytes: &[u8]) {
+    if bytes.len() <= 400 {
+        hex(bytes);
+        return;
+    }
+    show::byte(b' ');
+    io::print_hex(STDOUT_FILENO, digest(bytes), 16);
+}
+
+// From FNV's offset basis, byte by byte. A byte that is changed always changes it: no step takes two values to one.
+fn digest(bytes: &[u8]) -> u64 {
+    let mut value = 0xcbf29ce484222325;
+    let mut i = 0;
+    while i < bytes.len() {
+        value = digested(value, number::wide(bytes[i]));
+        i += 1;
+    }
+    value
+}
+
+// The byte xored in, times 2^40 + 2^8 + 1.
+fn digested(value: u64, byte: u64) -> u64 {
+    let mixed = value ^ byte;
+    let low = std::num::wrapping_add_u64(mixed << 8, mixed);
+    std::num::wrapping_add_u64(mixed << 40, low)
 }
 
 // For each basis the amplitudes of both sides; then how they compare: `same`, `nan` where they are alike but

@@ -1,9 +1,13 @@
--- The survey and the ending that stand beside a refusal: every number of theirs is 0.
+-- The survey, the ending and the folding that stand beside a refusal: every number of theirs is 0, the Pauli the identity on no qubits.
 use Rattle.framelaws.specs.Survey.{Survey}
-use Rattle.runlaws.specs.Calls.{Ending}
+use Rattle.paulilaws.specs.Pauli.{identity}
+use Rattle.runlaws.specs.Calls.{Ending, Folding}
 
 abbrev pub noSurvey : Survey
 noSurvey = record { width = 0; steps = 0; greatest = 0; scratch = 0 }
 
 abbrev pub noEnding : Ending
 noEnding = record { width = 0; steps = 0 }
+
+abbrev pub noFolding : Folding
+noFolding = record { end = identity 0; size = 0 }

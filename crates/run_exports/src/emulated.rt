@@ -1,8 +1,9 @@
-// Reading, checking, running, carrying, seeking and serving for the emulator, a board of six qubits: a start over six, or a
-// promotion at six, is refused by 21.
+// Reading, checking, running, carrying, seeking, folding and serving for the emulator, a board of six qubits: a start over
+// six, or a promotion at six, is refused by 21.
 // The service's ledger counts none of its runs, and is handed back as it was.
 use crate::seen;
 use crate::seen::SeenEnding;
+use crate::seen::SeenFolding;
 use crate::seen::SeenRead;
 use crate::seen::SeenServed;
 use crate::seen::SeenSurvey;
@@ -16,14 +17,15 @@ ghost use Rattle.paulilaws.specs.Pauli.{identity};
 ghost use Rattle.amplitudelaws.specs.Lent.{memory};
 ghost use Rattle.framelaws.specs.Caller.{emulator};
 ghost use Rattle.runlaws.specs.Reading.{readAt};
-ghost use Rattle.runlaws.specs.Calls.{checking, running, carrying, seeking};
+ghost use Rattle.runlaws.specs.Calls.{checking, running, carrying, seeking, folding};
 ghost use Rattle.runlaws.specs.Ledger as history;
 ghost use Rattle.activepauli.specs.Active.{activeOf};
 ghost use Rattle.checker.specs.Meaning.{surveyFieldsOf};
 ghost use Rattle.ledger.specs.Meaning.{ledgerOf};
 ghost use Rattle.verdicts.specs.Verdict.{Seen};
-ghost use Rattle.run_exports.specs.Nothing.{noSurvey, noEnding};
+ghost use Rattle.run_exports.specs.Nothing.{noSurvey, noEnding, noFolding};
 ghost use Rattle.run_exports.specs.Ending.{seenEndingOf};
+ghost use Rattle.run_exports.specs.Folding.{seenFoldingOf};
 ghost use Rattle.run_exports.specs.Reading.{readSeen, seenReadOf};
 
 #[no_mangle]
@@ -74,6 +76,14 @@ pub extern "C" fn naribhush_seek_emulated(run: &[u8], end: ActivePauli) -> SeenA
     ensures { λ r. ⌜ Seen (r .verdict) (activeOf (r .pauli)) (identity 0) (seeking emulator (now (run .entry)) (activeOf end)) ⌝ }
 {
     seen::sought(seeker::seek_emulated(run, end))
+}
+
+#[no_mangle]
+pub extern "C" fn naribhush_fold_emulated(run: &[u8], out: &mut [u8]) -> SeenFolding
+    ensures { λ r. let did = folding emulator (now (run .entry)) (now (out .entry)) in
+        ⌜ Seen (r .verdict) (seenFoldingOf r) noFolding (did .answer) × (now (out .exit) ≡ did .lent) ⌝ }
+{
+    seen::folded(folder::fold_emulated(run, out))
 }
 
 #[no_mangle]

@@ -15,6 +15,7 @@ use given::SeenPast;
 use kernel_exports::seen::SeenActivePauli;
 use ledger::Ledger;
 use seen::SeenEnding;
+use seen::SeenFolding;
 use seen::SeenRead;
 use seen::SeenServed;
 use seen::SeenSurvey;
@@ -25,7 +26,7 @@ ghost use Rattle.paulilaws.specs.Pauli.{identity};
 ghost use Rattle.amplitudelaws.specs.Lent.{memory};
 ghost use Rattle.framelaws.specs.Caller.{service, serviceWithin};
 ghost use Rattle.runlaws.specs.Reading.{readAt};
-ghost use Rattle.runlaws.specs.Calls.{checking, running, carrying, seeking};
+ghost use Rattle.runlaws.specs.Calls.{checking, running, carrying, seeking, folding};
 ghost use Rattle.runlaws.specs.Ledger as history;
 ghost use Rattle.activepauli.specs.Active.{activeOf};
 ghost use Rattle.checker.specs.Meaning.{surveyFieldsOf};
@@ -33,8 +34,9 @@ ghost use Rattle.ledger.specs.Meaning.{ledgerOf};
 ghost use Rattle.lines.specs.Calls.{lineCall, lineLeft};
 ghost use Rattle.listing.specs.Listing.{listed};
 ghost use Rattle.verdicts.specs.Verdict.{Seen};
-ghost use Rattle.run_exports.specs.Nothing.{noSurvey, noEnding};
+ghost use Rattle.run_exports.specs.Nothing.{noSurvey, noEnding, noFolding};
 ghost use Rattle.run_exports.specs.Ending.{seenEndingOf};
+ghost use Rattle.run_exports.specs.Folding.{seenFoldingOf};
 ghost use Rattle.run_exports.specs.Reading.{readSeen, seenReadOf};
 ghost use Rattle.run_exports.specs.Past.{givenCall, pastSeen, givenOf, pastOf};
 
@@ -92,6 +94,15 @@ pub extern "C" fn naribhush_seek(run: &[u8], end: ActivePauli) -> SeenActivePaul
     ensures { λ r. ⌜ Seen (r .verdict) (activeOf (r .pauli)) (identity 0) (seeking service (now (run .entry)) (activeOf end)) ⌝ }
 {
     seen::sought(seeker::seek_start(run, end))
+}
+
+// The run without its corrections, and the Pauli that is fired behind it instead.
+#[no_mangle]
+pub extern "C" fn naribhush_fold(run: &[u8], out: &mut [u8]) -> SeenFolding
+    ensures { λ r. let did = folding service (now (run .entry)) (now (out .entry)) in
+        ⌜ Seen (r .verdict) (seenFoldingOf r) noFolding (did .answer) × (now (out .exit) ≡ did .lent) ⌝ }
+{
+    seen::folded(folder::fold_run(run, out))
 }
 
 // The Pauli past one step, which may be any: 3, 4 and 10 as carrying looks at them, 14 where no step has the tag or

@@ -3,6 +3,7 @@ use activepauli::ActivePauli;
 use carrier::CarryAnswer;
 use checker::CheckAnswer;
 use checker::Survey;
+use folder::FoldAnswer;
 use kernel_exports::seen::SeenActivePauli;
 use ledger::Ledger;
 use paulitext::TextAnswer;
@@ -20,10 +21,12 @@ ghost use Rattle.checker.specs.Meaning.{surveyFieldsOf, checkAnswerOf};
 ghost use Rattle.runner.specs.Meaning.{runAnswerOf};
 ghost use Rattle.carrier.specs.Meaning.{carryAnswerOf};
 ghost use Rattle.seeker.specs.Meaning.{seekAnswerOf};
+ghost use Rattle.folder.specs.Meaning.{foldAnswerOf};
 ghost use Rattle.paulitext.specs.Calls.{textAnswerOf};
 ghost use Rattle.verdicts.specs.Verdict.{Seen};
-ghost use Rattle.run_exports.specs.Nothing.{noSurvey, noEnding};
+ghost use Rattle.run_exports.specs.Nothing.{noSurvey, noEnding, noFolding};
 ghost use Rattle.run_exports.specs.Ending.{seenEndingOf};
+ghost use Rattle.run_exports.specs.Folding.{seenFoldingOf};
 ghost use Rattle.run_exports.specs.Reading.{stepSeen, pauliSeen, bareSeen, readSeen, seenFieldOf, seenReadOf};
 
 // Beside a refusal all numbers of the survey are 0.
@@ -39,6 +42,14 @@ pub struct SeenEnding {
     pub verdict: Verdict,
     pub width: usize,
     pub steps: usize,
+}
+
+// The end Pauli, and how many bytes are left. Beside a refusal the identity on no qubits, and 0.
+#[repr(C)]
+pub struct SeenFolding {
+    pub verdict: Verdict,
+    pub end: ActivePauli,
+    pub size: usize,
 }
 
 // A run's answer, and the ledger behind it.
@@ -141,6 +152,31 @@ pub(crate) fn sought(answer: SeekAnswer) -> SeenActivePauli
         SeekAnswer::RefusedAt(row, at) => {
             kernel_exports::seen::no_pauli(verdicts::refused_at(row, at))
         }
+    }
+}
+
+// The folding of an answer that has this verdict and no folding.
+fn no_folding(verdict: Verdict) -> SeenFolding
+    ensures { λ r. ⌜ (r .verdict ≡ verdict) × (seenFoldingOf r ≡ noFolding) ⌝ }
+{
+    SeenFolding {
+        verdict,
+        end: identity_on_none(),
+        size: 0,
+    }
+}
+
+pub(crate) fn folded(answer: FoldAnswer) -> SeenFolding
+    ensures { λ r. ⌜ Seen (r .verdict) (seenFoldingOf r) noFolding (foldAnswerOf answer) ⌝ }
+{
+    match answer {
+        FoldAnswer::Folded(end, size) => SeenFolding {
+            verdict: verdicts::accepted(),
+            end,
+            size,
+        },
+        FoldAnswer::Refused(row) => no_folding(verdicts::refused(row)),
+        FoldAnswer::RefusedAt(row, at) => no_folding(verdicts::refused_at(row, at)),
     }
 }
 

@@ -32,13 +32,13 @@ written : (s : List ℕ) (j i v w : ℕ) → i ≡ j → i < length s → byteAt
 written s j i v w e l = rw (← e, getD-set-same (set s i v) i w 0 (rw (length-set s i v) l), getD-set-same s i w 0 l)
 
 module _ {R : Type 0} where
-  one : (at : ℕ) (t : Step R) (s : List ℕ) (i : ℕ) → (byteAt (flagAt at t s) i ≡ byteAt s i) ⊎ FlagOf at t i
+  pub flag-altered : (at : ℕ) (t : Step R) (s : List ℕ) (i : ℕ) → (byteAt (flagAt at t s) i ≡ byteAt s i) ⊎ FlagOf at t i
   unfolding flagAt
-  one at (rotation P sign c q) s i = set-or-kept s (at + 20) i sign
-  one at (promotion c q) s i = inl refl
-  one at (projection M p v invnorm) s i = set-or-kept s (at + 21) i v
-  one at (correction P) s i = inl refl
-  one at (quarterTurn P) s i = inl refl
+  flag-altered at (rotation P sign c q) s i = set-or-kept s (at + 20) i sign
+  flag-altered at (promotion c q) s i = inl refl
+  flag-altered at (projection M p v invnorm) s i = set-or-kept s (at + 21) i v
+  flag-altered at (correction P) s i = inl refl
+  flag-altered at (quarterTurn P) s i = inl refl
 
   -- what stood at the place of a flag is gone
   pub flag-own : (at : ℕ) (t : Step R) (s : List ℕ) (i v : ℕ) → FlagOf at t i → i < length s → byteAt (flagAt at t (set s i v)) i ≡ byteAt (flagAt at t s) i
@@ -53,7 +53,7 @@ module _ {R : Type 0} where
   unfolding flagged
   all at [] s i = inl refl
   all at (t ∷ ts) s i =
-      ⊎-elim (λ e. ⊎-elim (λ f. inl (e ∙ f)) (λ f. inr (inl f)) (one at t s i)) (λ f. inr (inr f)) (all (at + fieldSize t) ts (flagAt at t s) i)
+      ⊎-elim (λ e. ⊎-elim (λ f. inl (e ∙ f)) (λ f. inr (inl f)) (flag-altered at t s i)) (λ f. inr (inr f)) (all (at + fieldSize t) ts (flagAt at t s) i)
 
   -- the carried steps' flags stand where the steps' do
   one-carried : (at : ℕ) (Q : Pauli) (t : Step R) (i : ℕ) → FlagOf at (carriedStep Q t) i → FlagOf at t i

@@ -8,17 +8,19 @@ use Rattle.answers.specs.Answer.{Answer}
 use Rattle.answers.specs.Answer.Answer.{accepted, refused, refusedAt}
 use Rattle.answers.specs.Row.{row, first, answered}
 pub use Rattle.answers.specs.Outcome.{Outcome, byRow}
-use Rattle.paulilaws.specs.Pauli.{Pauli}
+use Rattle.paulilaws.specs.Pauli.{Pauli, identity}
 use Rattle.amplitudelaws.specs.Rows.{roomRow}
 use Rattle.amplitudelaws.specs.State.{roomFor, room}
 use Rattle.amplitudelaws.specs.Step.{lastWidth}
 use Rattle.framelaws.specs.Caller.{Caller}
 use Rattle.framelaws.specs.Carrying.{carriedSteps, endPauli}
+use Rattle.framelaws.specs.Folding.{foldedEnd}
 use Rattle.framelaws.specs.Memory.{Memory, ran}
 use Rattle.framelaws.specs.PassRow.{placedRow}
 use Rattle.framelaws.specs.Seeking.{isReached, startFor}
 use Rattle.framelaws.specs.Survey.{Survey, survey}
 use Rattle.runlaws.specs.Flags.{flagged}
+use Rattle.runlaws.specs.FoldedRun.{foldedRun}
 use Rattle.runlaws.specs.Run.{Run, mapped, runOf}
 
 -- a run that is refused leaves what was lent as it was
@@ -90,3 +92,21 @@ seekingRow E R = first (placedRow E (lastWidth (R .width) (R .steps))) (row (not
 -- a Pauli on the start qubits that is carried to E
 unfoldable pub seeking : Caller → List ℕ → Pauli → Answer Pauli
 seeking caller s E = ofRun (runOf caller s) (λ R. answered (seekingRow E R) (startFor (R .width) (R .steps) E))
+
+-- ---- folding
+
+-- the end Pauli, and how many bytes are left
+pub record Folding : Type 0 where
+  pub end : Pauli
+  pub size : ℕ
+
+abbrev pub foldingOf : List ℕ → Run → Folding
+foldingOf s R = record { end = foldedEnd (identity (R .width)) (R .steps); size = length (foldedRun R s) }
+
+-- 16: an output that is shorter than what is left
+unfoldable pub foldingRow : ℕ → ℕ → ℕ
+foldingRow size room = row (ltb room size) 16 0
+
+unfoldable pub folding : Caller → List ℕ → List ℕ → Outcome Folding (List ℕ)
+folding caller s out =
+    onRun (runOf caller s) out (λ R. let left = foldedRun R s in byRow (foldingRow (length left) (length out)) (foldingOf s R) (left ++ drop (length left) out) out)

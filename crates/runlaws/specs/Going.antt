@@ -11,6 +11,8 @@ use Rattle.paulilaws.specs.Fitting.{Admitted}
 use Rattle.amplitudelaws.specs.Step.{Step, widthAfter}
 use Rattle.framelaws.specs.Caller.{Caller}
 use Rattle.framelaws.specs.Carrying.{passed, endPauli}
+use Rattle.framelaws.specs.Folded.{folded-admitted, folded-width}
+use Rattle.framelaws.specs.Folding.{foldedPast}
 use Rattle.framelaws.specs.PassRow.{passRow}
 use Rattle.framelaws.specs.Suited.{passed-width, passed-admitted, step-passes}
 use Rattle.runlaws.specs.Reading.{Cursor, readAt}
@@ -67,6 +69,16 @@ going-step {caller} {s} {c} {Q} g t d e =
       };
       less = omega (arith, r .next, r .inside, size-ge t);
     }
+
+-- ---- with a Pauli into which corrections are folded
+
+pub going-folded : {caller : Caller} {s : List ℕ} {c : Cursor} {Q : Pauli} {steps : List (Step Float)} → Going caller s c Q steps
+    → {t : Step Float} {d : Cursor} (g : Gone caller s c Q steps t d) → Going caller s d (foldedPast Q t) (g .after)
+going-folded {caller} {s} {c} {Q} w {t} g = record {
+  left = g .going .left;
+  admitted = folded-admitted Q t (g .row);
+  width = folded-width Q t (g .row) ∙ ap (λ (n : ℕ). widthAfter n t) (w .width) ∙ sym (g .read .width);
+}
 
 -- ---- up to the end: with the Pauli as it is at a cursor, the steps that are left take it to `last`
 

@@ -4,6 +4,7 @@ pub mod Field
 pub mod Reading
 pub mod Run
 pub mod Flags
+pub mod FoldedRun
 pub mod Calls
 pub mod Ledger
 pub mod Conserved
@@ -26,6 +27,11 @@ pub mod Overwritten
 pub mod Frame
 pub mod Sent
 pub mod Theorem
+pub mod FoldedBytes
+pub mod ClosedUp
+pub mod FirstCorrection
+pub mod WithoutCorrections
+pub mod Folding
 pub mod TwoCorrections
 pub mod OneCarry
 pub mod Undoing

@@ -25,8 +25,9 @@ use Rattle.framelaws.specs.Suited.{placed-passed}
 use Rattle.amplitudelaws.specs.Step.{Step, widthAfter, lastWidth}
 use Rattle.framelaws.specs.Survey.{Survey}
 use Rattle.framelaws.specs.Surveyed.{survey-width}
+use Rattle.runlaws.specs.FoldedRun.{foldedRun}
 use Rattle.runlaws.specs.Run.{Run, runOf}
-use Rattle.runlaws.specs.Calls.{Outcome, onRun, byRow, surveyOf, Ending, endingOf, memoryRow, running, carryingRow, carriedRun, carrying}
+use Rattle.runlaws.specs.Calls.{Outcome, onRun, byRow, surveyOf, Ending, endingOf, memoryRow, running, carryingRow, carriedRun, carrying, Folding, foldingOf, foldingRow, folding}
 use Rattle.runlaws.specs.WholeRun.{run-allowed}
 
 -- a call that has done its work: the run that it read, and no row of its own
@@ -145,3 +146,26 @@ module _ (caller : Caller) (s : List ℕ) (Q : Pauli) (out : List ℕ) where
   pub carrying-kept : isAccepted (carrying caller s Q out .answer) ≡ false → carrying caller s Q out .lent ≡ out
   unfolding carrying
   carrying-kept e = kept carryRow ending output out (runOf caller s) e
+
+-- ---- folding
+
+module _ (caller : Caller) (s out : List ℕ) where
+  abbrev foldRow : Run → ℕ
+  foldRow R = foldingRow (length (foldedRun R s)) (length out)
+
+  abbrev closed : Run → List ℕ
+  closed R = foldedRun R s ++ drop (length (foldedRun R s)) out
+
+  pub folding-done : (f : Folding) → folding caller s out .answer ≡ accepted f → Done (runOf caller s) (folding caller s out) foldRow (foldingOf s) closed f
+  unfolding folding
+  folding-done f e = done foldRow (foldingOf s) closed out (runOf caller s) f e
+
+  pub folding-answers : (R : Run) → runOf caller s ≡ accepted R → foldRow R ≡ 0
+      → (folding caller s out .answer ≡ accepted (foldingOf s R)) × (folding caller s out .lent ≡ closed R)
+  unfolding folding
+  folding-answers R e z = answers foldRow (foldingOf s) closed out (runOf caller s) R e z
+
+  -- a refused call leaves the output as it was
+  pub folding-kept : isAccepted (folding caller s out .answer) ≡ false → folding caller s out .lent ≡ out
+  unfolding folding
+  folding-kept e = kept foldRow (foldingOf s) closed out (runOf caller s) e

@@ -83,7 +83,7 @@ own-byte s at i f here h =
     let byte : byteAt (f .body) i ≡ byteAt s (at + 3 + i) = rw (w .body) (simp (getD-take, getD-drop)) in
     ap (set s (at + 3 + i)) byte ∙ set-getD s (at + 3 + i) 0
 
-own-flag : (s : List ℕ) (at n : ℕ) (f : Field) {t : Step Float} → fieldAt s at ≡ some f → Decodes n f t → flagAt at t s ≡ s
+pub own-flag : (s : List ℕ) (at n : ℕ) (f : Field) {t : Step Float} → fieldAt s at ≡ some f → Decodes n f t → flagAt at t s ≡ s
 unfolding flagAt
 own-flag s at n f here (rotates tag size) = let place : at + 20 ≡ at + 3 + 17 = omega arith in rw place (own-byte s at 17 f here (omega arith))
 own-flag s at n f here (promotes tag size) = refl

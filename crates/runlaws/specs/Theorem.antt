@@ -65,7 +65,7 @@ fired-refused P m h =
 abbrev shot : Pauli → Memory → Memory
 shot P m = record { state = correction P (m .state); scratch = m .scratch }
 
-fired-done : (P : Pauli) (m : Memory) → correctionRow P (m .state) ≡ 0 → fired P m ≡ shot P m
+pub fired-done : (P : Pauli) (m : Memory) → correctionRow P (m .state) ≡ 0 → fired P m ≡ shot P m
 unfolding fired
 fired-done P m h = ap (λ (S : State). record { state = S; scratch = m .scratch }) (left-none _ (correction P (m .state)) (m .state) h)
 

@@ -1,8 +1,8 @@
 //! damage [CASES] [SEED] [heap]: every call with damaged or random input.
 //!
 //! A case offers bytes to each call that takes a run, those that carry a Pauli and those that seek a start with any numbers for the
-//! Pauli, and makes each of the other calls once. Case i throws the dice of SEED + i. Ends with 1 if anything is wrong, or if some
-//! call never met one of its rows.
+//! Pauli, those that fold with an output of any length, and makes each of the other calls once. Case i throws the dice of SEED + i.
+//! Ends with 1 if anything is wrong, or if some call never met one of its rows.
 
 use checks::case::{self, Arguments};
 use checks::lent::Lender;
@@ -17,7 +17,7 @@ const CASES: u64 = 3_000_000;
 const SEED: u64 = 1;
 
 /// The rows that each call has, 0 where none refuses it.
-const WANTED: [(&str, &[u8]); 58] = [
+const WANTED: [(&str, &[u8]); 62] = [
     ("read", &[0, 3, 6, 7, 8, 9, 10, 11, 12, 14, 15]),
     ("read a quarter turn", &[0, 3, 6, 7, 14]),
     ("check_run", &[0, 3, 7, 8, 9, 10, 11, 12, 14, 15]),
@@ -30,6 +30,8 @@ const WANTED: [(&str, &[u8]); 58] = [
     ("carry, the call's own", &[3, 4, 16]),
     ("seek", &[0, 3, 7, 8, 9, 10, 11, 12, 14, 15]),
     ("seek, the call's own", &[3, 4, 25]),
+    ("fold", &[0, 3, 7, 8, 9, 10, 11, 12, 14, 15]),
+    ("fold, the call's own", &[16]),
     ("read_emulated", &[0, 3, 7, 8, 9, 10, 11, 12, 14, 21]),
     ("read_emulated, a quarter turn", &[0, 3, 7, 14]),
     ("check_emulated", &[0, 3, 7, 8, 9, 10, 11, 12, 14, 21]),
@@ -42,6 +44,8 @@ const WANTED: [(&str, &[u8]); 58] = [
     ("carry_emulated, the call's own", &[3, 4, 16]),
     ("seek_emulated", &[0, 3, 7, 8, 9, 10, 11, 12, 14, 21]),
     ("seek_emulated, the call's own", &[3, 4, 25]),
+    ("fold_emulated", &[0, 3, 7, 8, 9, 10, 11, 12, 14, 21]),
+    ("fold_emulated, the call's own", &[16]),
     ("past", &[0, 3, 4, 10, 14]),
     ("past a quarter turn", &[0, 3, 4]),
     ("listing", &[0, 16]),

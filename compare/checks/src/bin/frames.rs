@@ -1,24 +1,26 @@
 //! frames [RUNS] [SEED] [heap]: demand 3 on random runs and on all single steps of few qubits, by the service's calls and,
 //! where the emulator takes the run, by its calls too; that the two callers leave the same state and carry alike; and, by each
-//! caller that takes the run, E11 with a second Pauli and E12 with ends that are named.
+//! caller that takes the run, E11 with a second Pauli, E12 with ends that are named, and E2 with corrections put in.
 //!
 //! Run i throws the dice of SEED + i. Ends with 1 if anything is wrong, or if something that the program is
 //! meant to see was never seen.
 
 use checks::callers::{BOTH, Who};
 use checks::case::{self, Arguments};
+use checks::folding::{self, Folded, Original};
 use checks::lent::Lender;
 use checks::patterns::hex;
 use checks::seeking::{self, Asked, Named};
-use checks::tally::{Findings, Tallies, Tally};
+use checks::tally::{Findings, Tallies, Tally, unseen};
+use checks::totals::Amplitudes;
 use checks::trials::{random_trial, single_step_trials, single_steps};
 use checks::two_callers::{self, Agreement};
 use checks::two_ways::{Outcome, Trial, compare};
-use checks::{draw, merging};
-use model::carry::{carry_step, takes_product};
+use checks::{draw, merging, passed};
+use model::carry::carry_step;
 use model::dice::Dice;
-use model::pauli::{Pauli, paulis};
-use model::run::{Caller, EMULATOR, LIMIT, Run, Step};
+use model::pauli::paulis;
+use model::run::{Caller, EMULATOR, LIMIT, Run};
 use model::seek::Ends;
 use std::process::ExitCode;
 
@@ -54,9 +56,7 @@ const WANTED: [&str; 19] = [
 struct Seen {
     starts: [u64; LIMIT + 1],
     steps: Tally,
-    finite: Totals,
-    from_the_start: Totals,
-    from_a_step: Totals,
+    amplitudes: Amplitudes,
     wrong: Findings,
 }
 
@@ -84,6 +84,14 @@ struct Seeks {
     wrong: Findings,
 }
 
+/// Of runs that are folded, by each caller.
+#[derive(Default)]
+struct Folds {
+    seen: Tallies,
+    amplitudes: Amplitudes,
+    wrong: Findings,
+}
+
 #[derive(Default)]
 struct All {
     service: Seen,
@@ -91,41 +99,7 @@ struct All {
     both: Both,
     merges: Merges,
     seeks: Seeks,
-}
-
-/// Of runs whose amplitudes are finite throughout, or not so from the start or from some step on.
-#[derive(Default)]
-struct Totals {
-    runs: u64,
-    compared: u64,
-    zeros_of_two_signs: u64,
-    both_nan: u64,
-    differing: u64,
-    runs_that_differ: u64,
-}
-
-impl Totals {
-    fn add(&mut self, outcome: &Outcome) {
-        let parts = &outcome.parts;
-        self.runs += 1;
-        self.compared += parts.compared as u64;
-        self.zeros_of_two_signs += parts.zeros_of_two_signs as u64;
-        self.both_nan += parts.both_nan as u64;
-        self.differing += parts.differing as u64;
-        self.runs_that_differ += u64::from(parts.differing > 0);
-    }
-
-    fn print(&self, name: &str) {
-        println!(
-            "{name:34} {:>10} {:>12} {:>12} {:>10} {:>10} {:>10}",
-            self.runs,
-            self.compared,
-            self.zeros_of_two_signs,
-            self.both_nan,
-            self.differing,
-            self.runs_that_differ,
-        );
-    }
+    folds: Folds,
 }
 
 impl Seen {
@@ -141,17 +115,13 @@ impl Seen {
     }
 
     fn add(&mut self, seed: u64, who: Who, trial: &Trial, outcome: &Outcome) {
+        self.amplitudes.add(outcome);
         if outcome.finite {
-            self.finite.add(outcome);
-            add_steps(&mut self.steps, who.caller(), trial, &outcome.carried);
-            if outcome.parts.differing + outcome.parts.both_nan > 0 {
-                let what = format!("{}: the two ways end in different numbers", who.name());
-                note(&mut self.wrong, seed, &what, trial);
-            }
-        } else if outcome.finite_start {
-            self.from_a_step.add(outcome);
-        } else {
-            self.from_the_start.add(outcome);
+            add_steps(&mut self.steps, who.caller(), trial);
+        }
+        if outcome.is_wrong() {
+            let what = format!("{}: the two ways end in different numbers", who.name());
+            note(&mut self.wrong, seed, &what, trial);
         }
     }
 
@@ -165,20 +135,7 @@ impl Seen {
         for name in WANTED {
             println!("  {name:46} {:>9}", self.steps.count(name));
         }
-        println!(
-            "{:34} {:>10} {:>12} {:>12} {:>10} {:>10} {:>10}",
-            "amplitudes, by parts",
-            "runs",
-            "compared",
-            "zeros +/-",
-            "NaN both",
-            "different",
-            "in runs",
-        );
-        self.finite.print("finite throughout");
-        self.from_a_step
-            .print("finite at the start, not throughout");
-        self.from_the_start.print("not finite at the start");
+        self.amplitudes.print();
     }
 
     /// By the widths that the caller takes.
@@ -188,24 +145,10 @@ impl Seen {
 
     /// What should have been seen and was not.
     fn missing(&self, who: Who) -> Vec<&'static str> {
-        let mut missing = self.steps.missing(&WANTED);
-        let mut want = |seen: u64, name| {
-            if seen == 0 {
-                missing.push(name);
-            }
-        };
         let least = self.starts(who).iter().min().copied();
-        want(least.unwrap_or(0), "some start width");
-        want(self.finite.zeros_of_two_signs, "zeros of two signs");
-        want(self.from_the_start.runs, "start that is not finite");
-        want(self.from_a_step.runs, "step that leaves no finite state");
-        // Nothing is promised there. That some differ shows that a difference is noticed.
-        want(
-            self.from_the_start.differing,
-            "difference, start not finite",
-        );
-        want(self.from_a_step.differing, "difference, later not finite");
-        missing
+        let width = unseen(&[(least.unwrap_or(0), "some start width")]);
+        let steps = self.steps.missing(&WANTED);
+        [steps, width, self.amplitudes.missing()].concat()
     }
 }
 
@@ -239,13 +182,11 @@ impl Both {
     }
 
     fn missing(&self) -> Vec<&'static str> {
-        let wanted = [
+        unseen(&[
             (self.runs, "run by both callers"),
             (self.not_finite, "part that is not finite, by both callers"),
             (self.service_alone, "run of the service alone"),
-        ];
-        let unseen = wanted.into_iter().filter(|(seen, _)| *seen == 0);
-        unseen.map(|(_, name)| name).collect()
+        ])
     }
 }
 
@@ -327,6 +268,51 @@ impl Seeks {
     }
 }
 
+impl Folds {
+    /// With dice of its own: the other checks draw what they would draw without it.
+    fn try_one(&mut self, lender: &Lender, dice: &Dice, seed: u64, trial: &Trial) {
+        let mut dice = Dice(dice.0.rotate_left(32));
+        let original = Original::draw(&mut dice, trial);
+        self.fold(lender, &mut dice, seed, &original);
+    }
+
+    fn fold(&mut self, lender: &Lender, dice: &mut Dice, seed: u64, original: &Original) {
+        for who in takers(&original.run) {
+            let wrong = match folding::compare(lender, dice, who, original) {
+                Ok(folded) => self.add(who, original, &folded),
+                Err(what) => Some(what),
+            };
+            if let Some(what) = wrong {
+                let what = format!("{}: {what}; {}", who.name(), original.description());
+                self.wrong.note(seed, &what);
+            }
+        }
+    }
+
+    /// What is wrong with the numbers, if anything is. The cases are counted in finite runs only.
+    fn add(&mut self, who: Who, original: &Original, folded: &Folded) -> Option<String> {
+        let outcome = &folded.outcome;
+        self.amplitudes.add(outcome);
+        if outcome.finite {
+            folding::count(self.seen.of(who), who, original, folded);
+        }
+        let what = || "the folded run and its end Pauli end in different numbers".to_string();
+        outcome.is_wrong().then(what)
+    }
+
+    fn print(&self) {
+        println!("runs folded, by the service's calls and by the emulator's");
+        self.seen.print(&folding::WANTED);
+        println!("the run, and the folded run with its end Pauli behind it, by either caller");
+        self.amplitudes.print();
+    }
+
+    fn missing(&self) -> Vec<&'static str> {
+        let cases = self.seen.missing(&folding::WANTED);
+        [cases, self.amplitudes.missing()].concat()
+    }
+}
+
 /// Whether a run, which the service takes, is narrow enough for the caller.
 fn takes(who: Who, run: &Run) -> bool {
     run.survey().greatest <= who.caller().widest
@@ -337,7 +323,7 @@ fn takers(run: &Run) -> impl Iterator<Item = Who> {
 }
 
 impl All {
-    /// By the service; by both; by the emulator where it takes the run; with a second Pauli; with ends that are named.
+    /// By the service; by both; by the emulator where it takes the run; with a second Pauli; with ends that are named; folded.
     fn try_one(&mut self, lender: &Lender, dice: &mut Dice, seed: u64, trial: &Trial) {
         self.service
             .try_one(lender, dice, seed, Who::Service, trial);
@@ -348,6 +334,7 @@ impl All {
         }
         self.merges.try_one(lender, dice, seed, trial);
         self.seeks.try_one(lender, dice, seed, &trial.run);
+        self.folds.try_one(lender, dice, seed, trial);
     }
 
     fn print(&self) {
@@ -356,30 +343,29 @@ impl All {
         self.both.print();
         self.merges.print();
         self.seeks.print();
+        self.folds.print();
     }
 
     fn wrong(&self) -> u64 {
         let callers = self.service.wrong.0 + self.emulator.wrong.0 + self.both.wrong.0;
-        callers + self.merges.wrong.0 + self.seeks.wrong.0
+        callers + self.merges.wrong.0 + self.seeks.wrong.0 + self.folds.wrong.0
     }
 
     fn missing(&self) -> Vec<&'static str> {
         let service = self.service.missing(Who::Service);
         let emulator = self.emulator.missing(Who::Emulator);
         let both = self.both.missing();
-        let rest = [self.merges.missing(), self.seeks.missing()];
-        [service, emulator, both, rest.concat()].concat()
+        let [merges, seeks] = [self.merges.missing(), self.seeks.missing()];
+        let folds = self.folds.missing();
+        [service, emulator, both, merges, seeks, folds].concat()
     }
 }
 
 /// Counts what carrying did to each step.
-fn add_steps(steps: &mut Tally, caller: Caller, trial: &Trial, carried: &Run) {
+fn add_steps(steps: &mut Tally, caller: Caller, trial: &Trial) {
     let mut frame = trial.q;
-    for (&step, &new) in trial.run.steps.iter().zip(&carried.steps) {
-        steps.add(kind(frame, step, new), 1);
-        if let Step::Projection { pauli, pivot, .. } = step {
-            steps.add(at_pivot(frame, pauli, pivot), 1);
-        }
+    for &step in &trial.run.steps {
+        steps.add_each(&passed::names(frame, step));
         frame = carry_step(frame, step).1;
     }
     let seen = trial.run.survey();
@@ -388,34 +374,6 @@ fn add_steps(steps: &mut Tally, caller: Caller, trial: &Trial, carried: &Run) {
     let widest = |width: usize| usize::from(width == caller.widest);
     steps.add("list that reaches the widest state", widest(seen.greatest));
     steps.add("start at the widest state", widest(trial.run.width));
-}
-
-fn kind(frame: Pauli, step: Step, carried: Step) -> &'static str {
-    let flipped = step != carried;
-    match step {
-        Step::Rotation { .. } if flipped => "rotation, sign flipped",
-        Step::Rotation { .. } => "rotation, sign kept",
-        Step::Promotion { .. } => "promotion",
-        Step::Projection { pauli, .. } => match (pauli.x != 0, flipped) {
-            (false, false) => "diagonal projection, branch kept",
-            (false, true) => "diagonal projection, branch flipped",
-            (true, false) => "nondiagonal projection, branch kept",
-            (true, true) => "nondiagonal projection, branch flipped",
-        },
-        Step::Correction { pauli } if frame.anticommutes(pauli) => "correction, phase raised",
-        Step::Correction { .. } => "correction, phase kept",
-        Step::QuarterTurn { pauli } if frame.anticommutes(pauli) => "quarter turn, frame turned",
-        Step::QuarterTurn { .. } => "quarter turn, frame kept",
-    }
-}
-
-fn at_pivot(frame: Pauli, m: Pauli, pivot: u8) -> &'static str {
-    match (m.x != 0, takes_product(frame, m, pivot)) {
-        (false, false) => "diagonal projection, no Z part at the pivot",
-        (false, true) => "diagonal projection, Z part at the pivot",
-        (true, false) => "nondiagonal projection, no X part at the pivot",
-        (true, true) => "nondiagonal projection, X part at the pivot",
-    }
 }
 
 /// Every Pauli carried past every single step at widths 0 to 2, with other floats in each round.
@@ -446,6 +404,20 @@ fn all_ends_of_single_steps(seen: &mut Seeks, lender: &Lender, seed: u64) -> u64
     count
 }
 
+/// Every Pauli fired before every single step at widths 0 to 2, and the two folded.
+fn all_corrections_before_single_steps(seen: &mut Folds, lender: &Lender, seed: u64) -> u64 {
+    let mut dice = Dice(seed);
+    let mut count = 0;
+    for width in 0..=2 {
+        for trial in single_step_trials(&mut dice, width) {
+            let original = Original::fired_first(&trial);
+            seen.fold(lender, &mut dice, seed, &original);
+            count += 1;
+        }
+    }
+    count
+}
+
 fn main() -> ExitCode {
     let Arguments { count, seed, heap } = Arguments::read(RUNS, SEED);
     case::name_faults();
@@ -455,6 +427,7 @@ fn main() -> ExitCode {
     case::begin(seed);
     let single = all_single_steps(&mut seen, &lender, seed);
     let named = all_ends_of_single_steps(&mut seen.seeks, &lender, seed);
+    let fired = all_corrections_before_single_steps(&mut seen.folds, &lender, seed);
     for seed in (0..count).map(|at| seed.wrapping_add(at)) {
         case::begin(seed);
         let mut dice = Dice(seed);
@@ -463,7 +436,8 @@ fn main() -> ExitCode {
     }
 
     println!(
-        "{count} random runs from seed {seed}, {single} runs of a single step, and {named} of one with every end named"
+        "{count} random runs from seed {seed}, {single} runs of a single step, {named} of one with every end named, \
+         and {fired} folded of one behind a correction"
     );
     seen.print();
     let missing = seen.missing();

@@ -10,12 +10,15 @@
 //! carry checks the run, and walks it a second time with one Pauli; so `walks`, what a seek takes over a check in units of what a
 //! carry takes over a check, is to be some 25. Without a step the clock itself is a part of each time.
 //!
+//! fold : check and fold : carry, on the same runs and on runs of which half are corrections.
+//!
 //! A further call gets a table of its own: a function like `seeks`, called in `main`.
 
 use checks::callers::Who;
 use checks::case::Arguments;
-use checks::clock::{Table, used};
+use checks::clock::{Call, Table, used};
 use checks::convert::{active, pauli};
+use checks::folding::told;
 use checks::{draw, largest};
 use model::dice::Dice;
 use model::pauli::Pauli;
@@ -30,6 +33,7 @@ fn main() {
     let Arguments { count, seed, .. } = Arguments::read(REPETITIONS, SEED);
     println!("microseconds, the least of {count} repetitions; runs from seed {seed}");
     seeks(&mut Dice(seed), count);
+    folds(&mut Dice(seed), count);
 }
 
 // ------------------------------------------------------------------ seeking
@@ -49,7 +53,7 @@ fn seeks(dice: &mut Dice, repetitions: u64) {
     };
     table.print_head();
     let widest = Who::Service.caller().widest;
-    for (name, run) in seek_runs(dice, widest) {
+    for (name, run) in runs(dice, widest) {
         seek_line(&table, dice, Who::Service, name, &run);
     }
     let run = largest::projections_and_promotions(dice, widest);
@@ -58,7 +62,7 @@ fn seeks(dice: &mut Dice, repetitions: u64) {
     seek_line(&table, dice, Who::Emulator, "mixed, by the emulator", &run);
 }
 
-fn seek_runs(dice: &mut Dice, width: usize) -> [(&'static str, Run); 7] {
+fn runs(dice: &mut Dice, width: usize) -> [(&'static str, Run); 7] {
     let steps = Vec::new();
     [
         ("no step", Run { width, steps }),
@@ -97,19 +101,61 @@ fn no_start_line(table: &Table, dice: &mut Dice, name: &str, run: &Run) {
     time_seek(table, Who::Service, name, run, end);
 }
 
-/// The Pauli that is carried beside it has every letter a Y, so that it meets what it can.
 fn time_seek(table: &Table, who: Who, name: &str, run: &Run, end: Pauli) {
+    let (bytes, end) = (run.bytes(), active(end));
+    let mut seek = || used(who.seek(black_box(&bytes), end));
+    time(table, who, name, run, &mut seek);
+}
+
+/// A call beside a check and a carry. The Pauli that is carried has every letter a Y, so that it meets what it can.
+fn time(table: &Table, who: Who, name: &str, run: &Run, call: Call) {
     let bytes = run.bytes();
-    let (end, mut out) = (active(end), vec![0; bytes.len()]);
+    let mut out = vec![0; bytes.len()];
     let ones = draw::low_bits(run.width);
     let carried = active(Pauli {
         x: ones,
         z: ones,
         ..Pauli::identity(run.width)
     });
-    let mut seek = || used(who.seek(black_box(&bytes), end));
     let mut check = || used(who.check(black_box(&bytes)));
     let mut carry = || used(who.carry(black_box(&bytes), carried, &mut out));
     let label = format!("{name}, {} bytes", bytes.len());
-    table.print_line(&label, &mut [&mut seek, &mut check, &mut carry]);
+    table.print_line(&label, &mut [call, &mut check, &mut carry]);
+}
+
+// ------------------------------------------------------------------ folding
+
+fn folds(dice: &mut Dice, repetitions: u64) {
+    let table = Table {
+        title: "folding, in checks and carries of the same run",
+        calls: &["fold", "check", "carry"],
+        figures: &[
+            ("fold : check", |times| times[0] / times[1]),
+            ("fold : carry", |times| times[0] / times[2]),
+        ],
+        repetitions,
+    };
+    table.print_head();
+    let widest = Who::Service.caller().widest;
+    for (name, run) in runs(dice, widest) {
+        fold_line(&table, Who::Service, name, &run);
+    }
+    let run = largest::half_corrections(dice, widest);
+    fold_line(&table, Who::Service, "half corrections", &run);
+    let run = largest::half_corrections(dice, Who::Emulator.caller().widest);
+    let name = "half corrections, by the emulator";
+    fold_line(&table, Who::Emulator, name, &run);
+}
+
+fn fold_line(table: &Table, who: Who, name: &str, run: &Run) {
+    let bytes = run.bytes();
+    let (expected, written) = told(&bytes, who.caller(), bytes.len());
+    let mut out = vec![0; written.len()];
+    let answered = who.fold(&bytes, &mut out);
+    assert!(
+        answered == expected && out == written,
+        "{name}: {answered:?}"
+    );
+    let mut fold = || used(who.fold(black_box(&bytes), &mut out));
+    time(table, who, name, run, &mut fold);
 }

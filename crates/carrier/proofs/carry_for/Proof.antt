@@ -44,7 +44,7 @@ carry-steps-requires c κs =
     let a = checked .before .before .before .args in
     ready (callerOf (a .caller)) (a .run .now) (activeOf (a .pauli)) (a .out .now)
     (sym (checked .check-with-start .ensures) ∙ ap checkedOf (matched .width .given .1))
-    (row .carrying-row .ensures) (omega (arith, copied .before .before .if1 .left)) (copied .copy .ensures .1)
+    (row .carrying-row .ensures) (omega (arith, copied .before .before .if1 .left))
 
 returns-2 : tie.Need-returns-2
 returns-2 c =

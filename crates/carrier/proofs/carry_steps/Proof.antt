@@ -1,19 +1,18 @@
 use mathlib.Core.Path.{_≡_, refl, sym, ap, _∙_}
 use Prim.Native.Nat.{_-_}
-use native.Mathlib.Omega.{arith}
 use lib.ListN.{length}
 use Rattle.activepauli.specs.Active.{activeOf}
 use Rattle.framelaws.specs.Carrying.{carriedStep, passed, carriedSteps, endPauli}
 use Rattle.passing.specs.Answer.{passAnswerOf}
 use Rattle.passing.specs.Accepted.{past-is, past-never}
-use Rattle.runlaws.specs.Flags.{fieldSize, flagged}
-use Rattle.runlaws.specs.Flagged.{flag-length, carried-size}
+use Rattle.runlaws.specs.Flags.{flagged}
+use Rattle.runlaws.specs.Flagged.{flag-length}
 use Rattle.runlaws.specs.Going.{Gone, going-step}
 use Rattle.runlaws.specs.OnStart.{runIn}
 use Rattle.callers.specs.Meaning.{callerOf}
 use Rattle.steps.proofs.Ended.{none-left}
 use Rattle.steps.specs.Meaning.{cursorOf, stepOf, readOf}
-use Rattle.carrier.proofs.Turn.{Carrying, outset, step-room, turn, all-written}
+use Rattle.carrier.proofs.Turn.{Carrying, outset, turn, all-written}
 use borrow.Author.Needs.{needs}
 use Rattle.carrier.proofs.carry_steps.Statement.{statement}
 use Rattle.carrier.proofs.carry_steps.Tie as tie
@@ -76,11 +75,7 @@ taken c =
     past-is _ _ (gone (asked .before .before) .row) (to .0) (to .1 .0) (ap passAnswerOf (sym (c .carried .given .1)) ∙ asked .past .ensures)
 
 write-flag-requires : tie.Need-write-flag-requires Inv-loop μ-loop
-write-flag-requires c κs =
-    let carried = c .before .before in
-    let got = carried .before .before .before .before in
-    let room = step-room (got .before .before .before .loop .inv .0) (gone got) in
-    omega (arith, room, ap fieldSize (taken carried .0) ∙ carried-size _ _)
+write-flag-requires c κs = search needs
 
 loop-less : tie.Need-loop-less Inv-loop μ-loop
 loop-less c = gone (c .before .before .before .before .before .before .before .before .before) .less

@@ -1,41 +1,27 @@
-use mathlib.Core.Path.{ap}
-use native.Mathlib.Omega.{arith}
-use Rattle.runlaws.specs.Flags.{fieldSize, flagAt}
+use mathlib.Core.Path.{_∙_}
+use Rattle.runlaws.specs.Flags.{flagAt}
 use Rattle.steps.proofs.Flag.{byte-digit}
-use Rattle.steps.specs.Meaning.{stepOf}
 use borrow.Author.Needs.{needs}
-use Rattle.carrier.proofs.write_flag.Statement.{statement}
-use Rattle.carrier.proofs.write_flag.Tie as tie
+use Rattle.flags.proofs.write_flag.Statement.{statement}
+use Rattle.flags.proofs.write_flag.Tie as tie
 
 enum-known-step : tie.Need-enum-known-step
 enum-known-step c = search needs
 
-cast-out : tie.Need-cast-out
-cast-out c = search needs
+cast-write : tie.Need-cast-write
+cast-write c = search needs
 
-add-out : tie.Need-add-out
-add-out c = search needs
-
-slice-write-out : tie.Need-slice-write-out
-unfolding fieldSize
-slice-write-out c =
-    let start = c .before .before .before in
-    omega (arith, ap (λ t. fieldSize (stepOf t)) (c .before .step .given .1), start .pre)
+write-requires : tie.Need-write-requires
+write-requires c κs = search needs
 
 enum-known-step-2 : tie.Need-enum-known-step-2
 enum-known-step-2 c = search needs
 
-cast-out-2 : tie.Need-cast-out-2
-cast-out-2 c = search needs
+cast-write-2 : tie.Need-cast-write-2
+cast-write-2 c = search needs
 
-add-out-2 : tie.Need-add-out-2
-add-out-2 c = search needs
-
-slice-write-out-2 : tie.Need-slice-write-out-2
-unfolding fieldSize
-slice-write-out-2 c =
-    let start = c .before .before .before in
-    omega (arith, ap (λ t. fieldSize (stepOf t)) (c .before .step2 .given .1), start .pre)
+write-requires-2 : tie.Need-write-requires-2
+write-requires-2 c κs = search needs
 
 enum-told : tie.Need-enum-told
 enum-told c = search needs
@@ -51,14 +37,14 @@ same-length c = search needs
 
 returns : tie.Need-returns
 unfolding flagAt
-returns c = rw (c .before .step .given .1, byte-digit _)
+returns c = c .before .before .write .ensures ∙ rw (c .before .before .before .before .before .step .given .1, byte-digit _)
 
 same-length-2 : tie.Need-same-length-2
 same-length-2 c = search needs
 
 returns-2 : tie.Need-returns-2
 unfolding flagAt
-returns-2 c = rw (c .before .step2 .given .1, byte-digit _)
+returns-2 c = c .before .before .write2 .ensures ∙ rw (c .before .before .before .before .before .step2 .given .1, byte-digit _)
 
 returns-3 : tie.Need-returns-3
 unfolding flagAt
@@ -77,13 +63,11 @@ write-flag-spec =
     tie.close
     (tie.spec
     enum-known-step
-    cast-out
-    add-out
-    slice-write-out
+    cast-write
+    write-requires
     enum-known-step-2
-    cast-out-2
-    add-out-2
-    slice-write-out-2
+    cast-write-2
+    write-requires-2
     enum-told
     enum-told-2
     enum-told-3

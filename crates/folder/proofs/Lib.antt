@@ -1,0 +1,5 @@
+pub mod Stays
+pub mod Lefts
+pub mod Fired
+pub mod Turn
+pub mod Answered

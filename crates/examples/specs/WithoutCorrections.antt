@@ -1,9 +1,10 @@
 -- Runs without corrections, by example, each worked by hand: products in their order, corrections before and behind projections and quarter turns, nothing but corrections
 -- and none, outputs of exactly the folded length and one short, both callers. And closed instances of every claim of the theorem on them, on a run with every kind of step and
 -- corrections before, between and behind.
-use mathlib.Core.Path.{_≡_, refl, sym, ap, _∙_, subst}
+use mathlib.Core.Path.{_≡_, refl, sym, ap, ap₂, _∙_, subst}
 use mathlib.Core.Bool.{true, false, not}
 use mathlib.Core.List.{List, [], _∷_, _++_}
+use mathlib.Core.Logic.{_⊎_}
 use mathlib.Core.Option.{some, Option·some-injective}
 use Prim.Native.Nat.{ℕ, _+_, _*_, _^_, _≤_, _<_}
 use native.Mathlib.Omega.{arith}
@@ -29,7 +30,7 @@ use Rattle.amplitudelaws.specs.Rotation.{rotationCoefficient, rotatedAlone, rot
 use Rattle.amplitudelaws.specs.Promotion.{raised as raisedQubit, promoted}
 use Rattle.amplitudelaws.specs.Projection.{minus, projectionCoefficient, remainingBy, remaining, projected}
 use Rattle.amplitudelaws.specs.Correction.{corrected}
-use Rattle.amplitudelaws.specs.Rows.{rotationKernelRow, measurementRow, hermitianRow, widthRow, unitRow, promotedWidthRow, pivotRow, pivotMask, roomRow}
+use Rattle.amplitudelaws.specs.Rows.{correctionRow, rotationKernelRow, measurementRow, hermitianRow, widthRow, unitRow, promotedWidthRow, pivotRow, pivotMask, roomRow}
 use Rattle.amplitudelaws.specs.State.{point, written, roomFor, room}
 use Rattle.amplitudelaws.specs.Steps as leaves
 use Rattle.amplitudelaws.specs.Step.{Step, widthAfter}
@@ -40,18 +41,19 @@ use Rattle.framelaws.specs.Carrying.{flipped, deciding, meets, absorbed, widene
 use Rattle.framelaws.specs.Folding.{fires, foldedBy, foldedPast, foldedEnd, oneFired, corrections, Bare}
 use Rattle.framelaws.specs.Memory.{Memory, stepped, ran}
 use Rattle.framelaws.specs.Rows.{stepRow, rotationStepRow, promotionStepRow, projectionStepRow}
-use Rattle.framelaws.specs.Survey.{mixedAmplitudes, surveyed, surveyFrom, survey}
-use Rattle.runlaws.specs.Bytes.{number, floatAt, pauliAt}
+use Rattle.framelaws.specs.Survey.{Survey, mixedAmplitudes, surveyed, surveyFrom, survey}
+use Rattle.runlaws.specs.Bytes.{byteAt, number, floatAt, pauliAt}
 use Rattle.runlaws.specs.Calls.{Outcome, Folding, onRun, surveyOf, checking, memoryRow, running, foldingRow, carrying, folding}
 use Rattle.runlaws.specs.Field.{bodyLength, isWhole, fieldAt}
-use Rattle.runlaws.specs.FirstCorrection.{behindStart}
-use Rattle.runlaws.specs.Flags.{fieldSize, flagAt}
-use Rattle.runlaws.specs.FoldedRun.{keptOf, leftBytes, foldedFields, foldedRun}
+use Rattle.runlaws.specs.Flags.{fieldSize, flagAt, FlagIn}
+use Rattle.runlaws.specs.FoldedRun.{keptOf, keptFields, keptRun, leftBytes, foldedFields, foldedRun}
 use Rattle.runlaws.specs.Folding.{without-corrections-at-the-service, without-corrections-at-the-emulator}
 use Rattle.runlaws.specs.Frame.{SameNumbers, Agreeing, FiniteRun, fired, sent}
+use Rattle.runlaws.specs.NumberBytes.{bytesOf}
+use Rattle.runlaws.specs.PauliBytes.{pauliBytes, correctionField}
 use Rattle.runlaws.specs.Reading.{decoded, unless, judgedBy, judged, readField, readAt}
 use Rattle.runlaws.specs.Run.{Run, mapped, ended, follow, walk, startWidth, begun, runOf}
-use Rattle.runlaws.specs.WithoutCorrections.{Accepted, Folded}
+use Rattle.runlaws.specs.WithoutCorrections.{behindStart, Accepted, Shorter, Folded}
 use Rattle.examples.specs.Emulator.{met as shared}
 use Rattle.examples.specs.Instance as Instance
 use Rattle.examples.specs.Instance.{here, there, agreeing, none, single, double}
@@ -156,7 +158,7 @@ by-hand-emulated = record {
 -- ---- a run with every kind of step
 
 -- The frame theorem's run (Instance), of the signs and branches that are the arguments, with corrections in three places: Y right behind the start, then one in the middle, on two
--- qubits, and X right before the end. `fired` says what stands in each.
+-- qubits, and X right before the end. `first`, `middle` and `last` are what stands there.
 abbrev through : (List ℕ → List ℕ) → (List ℕ → List ℕ) → (List ℕ → List ℕ) → ℕ → ℕ → ℕ → ℕ → ℕ → List ℕ
 through first middle last z x y mixing diagonal =
     runFrom 1
@@ -250,7 +252,7 @@ t-is =
     let size : length (met .t) ≡ 236 = sym (ap (λ (f : Folding). f .size) same-folding) in
     sym (ap (λ (o : Outcome Folding (List ℕ)). take 236 (o .lent)) same-outcome ∙ take-at (met .t) (drop (length (met .t)) (lent 237)) 236 size)
 
--- the last width, and the steps that are left
+-- the last width
 ends-at : met .ending .width ≡ 1
 ends-at = sym (met .last) ∙ sym (ap (λ (f : Folding). f .end .n) same-folding)
 
@@ -267,20 +269,101 @@ not-all-zeros : T (not (isZero (point (running service run here .lent .state) 0 
 unfolding running onRun memoryRow surveyOf survey surveyFrom surveyed mixedAmplitudes roomFor room roomRow runOf begun startWidth mapped walk follow ended readAt readField judged judgedBy unless decoded fieldAt isWhole bodyLength number floatAt pauliAt fits hermitian coefficient ys widthAfter stepRow rotationStepRow promotionStepRow projectionStepRow rotationKernelRow measurementRow hermitianRow widthRow unitRow promotedWidthRow pivotRow pivotMask inUnit row first answered left le neg ofBits digit overlap parity ones onesIn stepped leaves.rotation leaves.promotion leaves.projection leaves.correction leaves.scratchAfter leaves.scratchBy written point over rotated rotatedBy rotatedAlone rotatedWith rotationCoefficient promoted raisedQubit projected remaining remainingBy projectionCoefficient minus source corrected timesPower power times conjugate direction negated scale scaled mixed openBit add sub mul ran
 not-all-zeros = tt
 
--- what is left, against the run: eight steps of eleven, and no byte but signs and branches is another
-shorter : (met .left .steps ≡ left-list) × Bare left-list × (length (met .t) + 20 * corrections (met .run .steps) ≡ length run)
-shorter =
-    let is : met .left ≡ record { width = 1; steps = left-list } = accepted-same (sym (met .read) ∙ ap (runOf service) t-is ∙ reads) in
-    let steps : met .left .steps ≡ left-list = ap (λ (r : Run). r .steps) is in
-    (steps, subst Bare steps (met .shorter .bare), met .shorter .freed)
+-- ---- what is left, against the run: eight of eleven steps, sixty bytes less, and no byte another but signs and branches
 
--- folding it again, into an output with no byte to spare
-again : (o : List ℕ) → 236 ≤ length o → folding service left-run o .answer ≡ accepted (record { end = identity 1; size = 236 })
+-- the run's fields without its corrections, as they are
+abbrev unaltered : List ℕ
+unaltered = through (λ rest. rest) (λ rest. rest) (λ rest. rest) 0 0 0 0 1
+
+abbrev run-list : List (Step Float)
+run-list =
+    correction (one 1 1 1)
+    ∷ rotation (one 0 0 1) 0 bytes.zero bytes.one
+    ∷ rotation (one 0 1 0) 0 bytes.zero bytes.one
+    ∷ rotation (one 1 1 1) 0 bytes.zero bytes.one
+    ∷ promotion bytes.zero bytes.one
+    ∷ quarterTurn (two 0 2 1)
+    ∷ correction (two 0 0 2)
+    ∷ projection (two 1 1 1) 0 0 bytes.one
+    ∷ projection (one 0 0 1) 0 1 bytes.one
+    ∷ promotion bytes.zero bytes.one
+    ∷ correction (one 0 1 0)
+    ∷ []
+
+abbrev read-run : Run
+read-run = record { width = 1; steps = run-list }
+
+run-reads : runOf service run ≡ accepted read-run
+unfolding runOf begun startWidth mapped walk follow ended readAt readField judged judgedBy unless decoded fieldAt isWhole bodyLength number floatAt pauliAt fits hermitian coefficient ys widthAfter stepRow rotationStepRow promotionStepRow projectionStepRow rotationKernelRow measurementRow hermitianRow widthRow unitRow promotedWidthRow pivotRow pivotMask inUnit row first answered left le neg ofBits digit overlap parity ones onesIn
+run-reads = refl
+
+run-is : met .run ≡ read-run
+run-is = accepted-same (sym (met .reads) ∙ run-reads)
+
+left-is : met .left ≡ record { width = 1; steps = left-list }
+left-is = accepted-same (sym (met .read) ∙ ap (runOf service) t-is ∙ reads)
+
+kept-is : keptRun read-run run ≡ unaltered
+unfolding keptRun keptFields keptOf fires fieldSize
+kept-is = refl
+
+less : Shorter run left-run read-run (record { width = 1; steps = left-list })
+less =
+    subst (λ (t : List ℕ). Shorter run t read-run (record { width = 1; steps = left-list })) t-is
+    (subst (λ (r : Run). Shorter run (met .t) r (record { width = 1; steps = left-list })) run-is
+    (subst (λ (l : Run). Shorter run (met .t) (met .run) l) left-is (met .shorter)))
+
+-- each of its claims
+record Less : Type 0 where
+  start : 1 ≡ read-run .width
+  bare : Bare left-list
+  others : length left-list + corrections run-list ≡ length run-list
+  freed : length left-run + 20 * corrections run-list ≡ length run
+  size : length left-run ≡ length unaltered
+  bytes : (i : ℕ) → (byteAt left-run i ≡ byteAt unaltered i) ⊎ FlagIn 4 left-list i
+
+lesser : Less
+lesser = record {
+  start = less .start;
+  bare = less .bare;
+  others = less .others;
+  freed = less .freed;
+  size = less .size ∙ ap length kept-is;
+  bytes = λ i. subst (λ (k : List ℕ). (byteAt left-run i ≡ byteAt k i) ⊎ FlagIn 4 left-list i) kept-is (less .bytes i);
+}
+
+-- the run ends on one qubit; so does what is left of it, behind eight steps, and the end Pauli may be fired there; on other buffers it is accepted or refused as the run is
+runs-whole : running service run here .answer ≡ accepted (record { width = 1; steps = met .ending .steps })
+runs-whole = met .whole ∙ ap (λ (n : ℕ). accepted (record { width = n; steps = met .ending .steps })) ends-at
+
+runs-left : running service left-run there .answer ≡ accepted (record { width = 1; steps = 8 })
+runs-left =
+    ap (λ (t : List ℕ). running service t there .answer) (sym t-is) ∙ met .runs
+    ∙ ap₂ (λ (w : ℕ) (l : Run). accepted (record { width = w; steps = length (l .steps) })) ends-at left-is
+
+may-fire : correctionRow end (running service left-run there .lent .state) ≡ 0
+may-fire =
+    ap₂ (λ (P : Pauli) (t : List ℕ). correctionRow P (running service t there .lent .state)) (ap (λ (f : Folding). f .end) same-folding) (sym t-is) ∙ met .behind
+
+on-any : (w : Memory) → isAccepted (running service left-run w .answer) ≡ isAccepted (running service run w .answer)
+on-any w = ap (λ (t : List ℕ). isAccepted (running service t w .answer)) (sym t-is) ∙ met .alike w
+
+-- folding it again, into any output that has room
+again : (o : List ℕ) → 236 ≤ length o → folding service left-run o ≡ record { answer = accepted (record { end = identity 1; size = 236 }); lent = left-run ++ drop 236 o }
 again o h =
-    ap (λ (t : List ℕ). folding service t o .answer) (sym t-is)
-    ∙ ap (λ (did : Outcome Folding (List ℕ)). did .answer) (met .again o (rw t-is h))
-    ∙ ap (λ (n : ℕ). accepted (record { end = identity n; size = length (met .t) })) ends-at
-    ∙ ap (λ (t : List ℕ). accepted (record { end = identity 1; size = length t })) t-is
+    ap (λ (t : List ℕ). folding service t o) (sym t-is) ∙ met .again o (rw t-is h)
+    ∙ ap₂ (λ (n : ℕ) (t : List ℕ). record { answer = accepted (record { end = identity n; size = length t }); lent = t ++ drop (length t) o }) ends-at t-is
+
+-- ---- the request's sentence, of any run, any output and any two sets of buffers
+
+module _ (s out : List ℕ) (m u : Memory) (here : isAccepted (running service s m .answer) ≡ true) (there : isAccepted (running service s u .answer) ≡ true)
+    (folds : isAccepted (folding service s out .answer) ≡ true) (start : (n : ℕ) → startWidth (fieldAt s 0) ≡ some n → Agreeing n (m .state) (u .state)) where
+  abbrev of-any : Folded service s out m u
+  of-any = without-corrections-at-the-service .accepts s out m u (record { here = here; there = there; folds = folds; start = start })
+
+  same-state : FiniteRun service (of-any .t) u → (b : ℕ) → b < 2 ^ of-any .ending .width
+      → SameNumbers (point (running service s m .lent .state) b) (point (fired (of-any .end) (running service (of-any .t) u .lent) .state) b)
+  same-state = of-any .same
 
 -- ---- the other claims, each used
 
@@ -308,6 +391,20 @@ unfolding corrections oneFired fires runOf begun startWidth mapped walk follow e
 enough out h =
     without-corrections-at-the-service .room x-z out (record { width = 1; steps = correction (one 0 1 0) ∷ correction (one 0 0 1) ∷ [] }) refl (omega (arith, h))
 
+-- where other steps stand beside the corrections, below 236
+sixteen-here : (out : List ℕ) → length out < 236 → folding service run out .answer ≡ refused 16
+unfolding corrections oneFired fires
+sixteen-here out h = without-corrections-at-the-service .short run out read-run run-reads (omega (arith, h))
+
+enough-here : (out : List ℕ) → 236 ≤ length out → isAccepted (folding service run out .answer) ≡ true
+unfolding corrections oneFired fires
+enough-here out h = without-corrections-at-the-service .room run out read-run run-reads (omega (arith, h))
+
+-- a correction put behind the start field
+behind-start : behindStart (one 0 0 1) (measured 1) ≡ before 0 1 1
+unfolding behindStart correctionField pauliBytes bytesOf
+behind-start = refl
+
 -- one correction behind the start is a Pauli carried through the rest
 first-carried : (out other : List ℕ) (end : Pauli) → carrying service (measured 1) (one 0 0 1) other .answer ≡ accepted end → 37 ≤ length out
     → folding service (behindStart (one 0 0 1) (measured 1)) out
@@ -323,13 +420,40 @@ own-rows = without-corrections-at-the-service .run-first
 stays : (s out : List ℕ) → isAccepted (folding service s out .answer) ≡ false → folding service s out .lent ≡ out
 stays = without-corrections-at-the-service .kept
 
--- by the emulator: its own row, and the same claims
+-- ---- by the emulator: its own row, and each claim
+
 over-six : (out : List ℕ) → folding emulator (alone 7) out .answer ≡ refusedAt 21 0
 unfolding checking surveyOf mapped runOf begun startWidth fieldAt isWhole bodyLength number
 over-six out = without-corrections-at-the-emulator .run-first (alone 7) out 21 0 refl
 
-on-the-board : (m u : Memory) (out : List ℕ) → Accepted emulator run out m u → Folded emulator run out m u
-on-the-board m u out = without-corrections-at-the-emulator .accepts run out m u
+on-the-board : (s out : List ℕ) (m u : Memory) → Accepted emulator s out m u → Folded emulator s out m u
+on-the-board = without-corrections-at-the-emulator .accepts
+
+none-on-the-board : (s out : List ℕ) (R : Run) (v : Survey) → runOf emulator s ≡ accepted R → checking emulator s ≡ accepted v → Bare (R .steps) → length s ≤ length out
+    → folding emulator s out ≡ record { answer = accepted (record { end = identity (v .width); size = length s }); lent = s ++ drop (length s) out }
+none-on-the-board = without-corrections-at-the-emulator .none
+
+seven-on-the-board : (s out : List ℕ) (R : Run) (f : Folding) → runOf emulator s ≡ accepted R → corrections (R .steps) ≡ length (R .steps)
+    → folding emulator s out .answer ≡ accepted f → (f .size ≡ 7) × (take 7 (folding emulator s out .lent) ≡ alone (R .width))
+seven-on-the-board = without-corrections-at-the-emulator .nothing-else
+
+first-on-the-board : (s out other : List ℕ) (Q end : Pauli) (R : Run) → runOf emulator s ≡ accepted R → Bare (R .steps) → length s + 20 ≤ 65536
+    → carrying emulator s Q other .answer ≡ accepted end → length s ≤ length out
+    → folding emulator (behindStart Q s) out
+    ≡ record { answer = accepted (record { end = end; size = length s }); lent = sent emulator s Q other ++ drop (length s) out }
+first-on-the-board = without-corrections-at-the-emulator .first
+
+rows-on-the-board : (s out : List ℕ) (r at : ℕ) → checking emulator s ≡ refusedAt r at → folding emulator s out .answer ≡ refusedAt r at
+rows-on-the-board = without-corrections-at-the-emulator .run-first
+
+sixteen-on-the-board : (s out : List ℕ) (R : Run) → runOf emulator s ≡ accepted R → length out + 20 * corrections (R .steps) < length s → folding emulator s out .answer ≡ refused 16
+sixteen-on-the-board = without-corrections-at-the-emulator .short
+
+room-on-the-board : (s out : List ℕ) (R : Run) → runOf emulator s ≡ accepted R → length s ≤ length out + 20 * corrections (R .steps) → isAccepted (folding emulator s out .answer) ≡ true
+room-on-the-board = without-corrections-at-the-emulator .room
+
+stays-on-the-board : (s out : List ℕ) → isAccepted (folding emulator s out .answer) ≡ false → folding emulator s out .lent ≡ out
+stays-on-the-board = without-corrections-at-the-emulator .kept
 
 -- the frame theorem's run, which both hold: the same from both
 by-both : (out : List ℕ) → folding emulator Instance.run out ≡ folding service Instance.run out

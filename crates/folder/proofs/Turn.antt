@@ -43,7 +43,7 @@ pub record Writing (caller : Caller) (s : List ℕ) (last : Pauli) (all old : Li
 
 -- ---- a part of the output from `to` on, and new bytes in its place
 
-abbrev pub partOf : List ℕ → ℕ → List ℕ
+abbrev partOf : List ℕ → ℕ → List ℕ
 partOf out to = take (length out - to) (drop to out)
 
 abbrev pub putBack : List ℕ → ℕ → List ℕ → List ℕ
@@ -125,18 +125,16 @@ module _ (caller : Caller) (s : List ℕ) (width : ℕ) (ready : Foldable caller
       }
 
   -- past the bytes that are left the copy is as the output was
-  pub copied-tail : (old head out : List ℕ) → length (foldedRun R s) ≤ length old → head ≡ take 4 s → out ≡ take (length head) head ++ drop (length head) old
-      → (drop (length (foldedRun R s)) out ≡ drop (length (foldedRun R s)) old) × (length out ≡ length old)
+  pub copied-tail : (old head out : List ℕ) → head ≡ take 4 s → out ≡ take (length head) head ++ drop (length head) old
+      → drop (length (foldedRun R s)) out ≡ drop (length (foldedRun R s)) old
   unfolding foldedRun
-  copied-tail old head out room first copied =
+  copied-tail old head out first copied =
       let known = run-allowed caller s R (ready .read) in
       let four : length head ≡ 4 = ap length first ∙ simp length-take (omega (arith, known .begins)) in
       let out-is : out ≡ head ++ drop 4 old = copied ∙ ap₂ (λ (l : List ℕ) (n : ℕ). l ++ drop n old) (take-length head) four in
       let more : ℕ = length (foldedFields none (R .steps) (drop 4 s)) in
-      let all : length (foldedRun R s) ≡ 4 + more = length-append (take 4 s) (foldedFields none (R .steps) (drop 4 s)) ∙ ap (λ (n : ℕ). n + more) (sym (ap length first) ∙ four) in (
-        ap₂ drop (all ∙ ap (λ (n : ℕ). n + more) (sym four)) out-is ∙ drop-append-add head (drop 4 old) more ∙ drop-drop more 4 old ∙ ap (λ (n : ℕ). drop n old) (sym all),
-        ap length out-is ∙ length-append head (drop 4 old) ∙ simp length-drop (omega (arith, four, start-fits old room)),
-      )
+      let all : length (foldedRun R s) ≡ 4 + more = length-append (take 4 s) (foldedFields none (R .steps) (drop 4 s)) ∙ ap (λ (n : ℕ). n + more) (sym (ap length first) ∙ four) in
+      ap₂ drop (all ∙ ap (λ (n : ℕ). n + more) (sym four)) out-is ∙ drop-append-add head (drop 4 old) more ∙ drop-drop more 4 old ∙ ap (λ (n : ℕ). drop n old) (sym all)
 
 -- a step's field
 module _ {caller : Caller} {s : List ℕ} {last : Pauli} {all old : List ℕ} {c : Cursor} {Q : Pauli} {to : ℕ} {out : List ℕ}
@@ -150,7 +148,7 @@ module _ {caller : Caller} {s : List ℕ} {last : Pauli} {all old : List ℕ} {c
 
   module _ {t : Step Float} {d : Cursor} (g : Gone caller s c Q (w .steps) t d) where
     -- the field's bytes, as they are cut out of the run
-    abbrev pub field : List ℕ
+    abbrev field : List ℕ
     field = take (d .at - c .at) (drop (c .at) s)
 
     abbrev left : List ℕ

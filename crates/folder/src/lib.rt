@@ -1,6 +1,7 @@
 // Folding: a run without its corrections. Each is folded into a Pauli that begins as the identity and is taken past the
 // other steps, whose signs and branches it alters. The fields that are left are written to a lent output, one behind the
-// other, and the Pauli at the end is answered: fired behind them it gives what the run gives.
+// other, and the Pauli at the end is answered: fired behind them it gives what the run gives (runlaws WithoutCorrections
+// says when).
 mod past;
 
 use activepauli::ActivePauli;
@@ -106,8 +107,8 @@ fn fold_steps(run: &[u8], width: usize, out: &mut [u8], caller: Caller) -> Activ
         };
         let from = cursor.at;
         let until = next.at;
-        let size = past::write_left(&run[from..until], held, step, &mut out[to..]);
-        to += size;
+        let count = past::write_left(&run[from..until], held, step, &mut out[to..]);
+        to += count;
         held = past::folded(held, step);
         cursor = next;
     }

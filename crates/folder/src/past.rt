@@ -16,8 +16,8 @@ ghost use Rattle.runlaws.specs.Flags.{flagAt};
 ghost use Rattle.runlaws.specs.FoldedRun.{leftBytes};
 ghost use Rattle.steps.specs.Meaning.{stepOf};
 
-// The bytes of a correction's field.
-const CORRECTION_BYTES: usize = 20;
+// The bytes of a correction's whole field.
+const CORRECTION_FIELD: usize = 20;
 
 pub(crate) fn identity(width: usize) -> ActivePauli
     ensures { λ r. ⌜ activeOf r ≡ pauli.identity width ⌝ }
@@ -37,7 +37,7 @@ pub(crate) fn freed(step: Step) -> usize
     let Step::Correction(_) = step else {
         return 0;
     };
-    CORRECTION_BYTES
+    CORRECTION_FIELD
 }
 
 // The Pauli behind the step.
@@ -49,13 +49,13 @@ pub(crate) fn folded(pauli: ActivePauli, step: Step) -> ActivePauli
         return passed(pauli, step);
     };
     let ActivePauliAnswer::Pauli(product) = fired.mul(pauli) else {
-        // Never: the two are on the same qubits.
+        // Never: both are Paulis, on the same qubits.
         return pauli;
     };
     product
 }
 
-// Behind one that is no correction it is as carrying has it.
+// As carrying takes it past a step.
 fn passed(pauli: ActivePauli, step: Step) -> ActivePauli
     requires { ⌜ passRow (activeOf pauli) (stepOf step) ≡ 0 ⌝ }
     ensures { λ r. ⌜ activeOf r ≡ carrying.passed (activeOf pauli) (stepOf step) ⌝ }

@@ -21,8 +21,7 @@ use Rattle.amplitudelaws.specs.Step.Step.{rotation, promotion, projection, corr
 use Rattle.framelaws.specs.Caller.{Caller}
 use Rattle.framelaws.specs.Rows.{stepRow}
 use Rattle.framelaws.specs.Carrying.{carriedStep, passed}
-use Rattle.framelaws.specs.Folding.{fires, leftOf, foldedBy, foldedPast, foldedSteps, foldedEnd, Firing}
-use Rattle.framelaws.specs.Folding.Firing.{firing, keeping}
+use Rattle.framelaws.specs.Folding.{fires, leftOf, foldedBy, foldedPast, foldedSteps, foldedEnd}
 use Rattle.framelaws.specs.Survey.{survey}
 use Rattle.framelaws.specs.Memory.{Memory, stepped, ran}
 use Rattle.framelaws.specs.Alike.{Alike, alike-trans, alike-eq}
@@ -39,6 +38,11 @@ use Rattle.framelaws.specs.PassRow.{passRow}
 use Rattle.framelaws.specs.Suited.{passed-suited, passed-width, passed-admitted}
 use Rattle.framelaws.specs.List.{framed-only, point-correction, past-step}
 
+-- a step is a correction, or fires none
+pub data Firing {R : Type 0} : Step R → Type 0 where
+  firing : (P : Pauli) → Firing (correction P)
+  keeping : {t : Step R} → fires t ≡ none → Firing t
+
 module _ {R : Type 0} (Q : Pauli) (t : Step R) (stays : fires t ≡ none) where
   -- past a step that is no correction it is carrying
   pub kept-past : foldedPast Q t ≡ passed Q t
@@ -48,6 +52,11 @@ module _ {R : Type 0} (Q : Pauli) (t : Step R) (stays : fires t ≡ none) where
   pub kept-steps : (ts : List (Step R)) → foldedSteps Q (t ∷ ts) ≡ carriedStep Q t ∷ foldedSteps (passed Q t) ts
   unfolding foldedSteps leftOf
   kept-steps ts = rw (stays, kept-past)
+
+-- a correction is none of the steps that are left
+fired-steps : (Q P : Pauli) (ts : List (Step Float)) → foldedSteps Q (correction P ∷ ts) ≡ foldedSteps (foldedPast {R = Float} Q (correction P)) ts
+unfolding foldedSteps leftOf fires
+fired-steps Q P ts = refl
 
 pub firing-of : {R : Type 0} (t : Step R) → Firing t
 unfolding fires
@@ -76,7 +85,7 @@ exponents b P Q =
     )
 
 -- Nothing need be finite.
-pub framed-folded : (n : ℕ) (Q P : Pauli) {F G : ℕ → Point} → Framed n Q F G → Framed n (behind P Q) (corrected binary P F) G
+framed-folded : (n : ℕ) (Q P : Pauli) {F G : ℕ → Point} → Framed n Q F G → Framed n (behind P Q) (corrected binary P F) G
 unfolding foldedPast fires foldedBy product
 framed-folded n Q P {F} {G} w = record {
   at = λ b hb.
@@ -92,11 +101,11 @@ framed-folded n Q P {F} {G} w = record {
 
 -- Which of the two stands first plays no part here: the law of the frame says it.
 module _ (P Q : Pauli) (e : P .n ≡ Q .n) (t : Step Float) where
-  pub fired-fitting : Fitting P → Fitting Q → Fitting (foldedBy (some P) Q t)
+  fired-fitting : Fitting P → Fitting Q → Fitting (foldedBy (some P) Q t)
   unfolding foldedBy
   fired-fitting f g = search (product-fitting, sym, e)
 
-  pub fired-width : foldedBy (some P) Q t .n ≡ Q .n
+  fired-width : foldedBy (some P) Q t .n ≡ Q .n
   unfolding foldedBy product
   fired-width = omega (arith, e)
 
@@ -110,7 +119,7 @@ module _ (caller : Caller) (n : ℕ) (Q : Pauli) (within : n ≤ caller .widest)
   }
   fitting-by t (keeping stays) h e = rw stays (fitting-passed caller n Q t within h e f width)
 
-  pub fitting-folded : (t : Step Float) → Placed n t → stepRow caller n t ≡ 0 → Fitted caller (widthAfter n t) (foldedPast Q t)
+  fitting-folded : (t : Step Float) → Placed n t → stepRow caller n t ≡ 0 → Fitted caller (widthAfter n t) (foldedPast Q t)
   fitting-folded t = fitting-by t (firing-of t)
 
 pub fitting-folded-end : (caller : Caller) (ts : List (Step Float)) (n : ℕ) (Q : Pauli) → n ≤ caller .widest → Allowed caller n ts → Fitting Q → Q .n ≡ n
@@ -202,16 +211,17 @@ module _ (caller : Caller) (g : ℕ) where
 
     -- and a correction, at which the second memory stays
     folded-step : (P : Pauli) → Ready (correction P ∷ ts) n Q m u → Behind (correction P) ts n → FiniteSteps n (foldedSteps Q (correction P ∷ ts)) u → Ends (correction P ∷ ts) n Q m u
-    unfolding foldedSteps foldedEnd lastWidth ran widthAfter stepped leftOf fires
+    unfolding foldedEnd lastWidth ran widthAfter stepped
     folded-step P r rest finite =
         let t : Step Float = correction P in
         let next = fitting-folded caller n Q (r .within) (r .fits) (r .width) t (r .allowed .0) (r .allowed .1) in
-        rest (foldedPast Q t) (stepped n t m) u
+        rw (fired-steps Q P ts)
+        (rest (foldedPast Q t) (stepped n t m) u
         (readied t r u (r .room-u)
         (framed-only n (foldedPast Q t) (rw (next .width) at (next .fitting .xs))
         (point-correction n P (m .state) (r .allowed .0) (room-under n g (m .state) (under t r) (r .room-m))) (λ b h. refl)
         (framed-folded n Q P (r .framed))))
-        finite
+        (subst (λ (us : List (Step Float)). FiniteSteps n us u) (fired-steps Q P ts) finite))
 
     by-firing : (t : Step Float) → Firing t → Ready (t ∷ ts) n Q m u → Behind t ts n → FiniteSteps n (foldedSteps Q (t ∷ ts)) u → Ends (t ∷ ts) n Q m u
     by-firing _ (firing P) r rest finite = folded-step P r rest finite

@@ -10,9 +10,9 @@ use Rattle.amplitudelaws.specs.Step.{Step, widthAfter}
 use Rattle.amplitudelaws.specs.Step.Step.{correction}
 use Rattle.framelaws.specs.Carried.{flagless-carried, surveyed-carried}
 use Rattle.framelaws.specs.Carrying.{carriedStep, passed, endPauli}
-use Rattle.framelaws.specs.Folded.{kept-past, kept-steps, firing-of}
-use Rattle.framelaws.specs.Folding.{oneFired, fires, leftOf, foldedPast, foldedSteps, foldedEnd, Firing, corrections, Bare}
-use Rattle.framelaws.specs.Folding.Firing.{firing, keeping}
+use Rattle.framelaws.specs.Folded.{kept-past, kept-steps, firing-of, Firing}
+use Rattle.framelaws.specs.Folding.{oneFired, fires, leftOf, foldedPast, foldedSteps, foldedEnd, corrections, Bare}
+use Rattle.framelaws.specs.Folded.Firing.{firing, keeping}
 use Rattle.framelaws.specs.Survey.{Survey, mixedAmplitudes, surveyed, surveyFrom, outset, survey}
 
 module _ {R : Type 0} where

@@ -43,11 +43,6 @@ module _ {R : Type 0} where
   foldedEnd Q [] = Q
   foldedEnd Q (t ∷ ts) = foldedEnd (foldedPast Q t) ts
 
-  -- a step is a correction, or fires none
-  pub data Firing : Step R → Type 0 where
-    firing : (P : Pauli) → Firing (correction P)
-    keeping : {t : Step R} → fires t ≡ none → Firing t
-
   -- how many steps are corrections
   unfoldable pub corrections : List (Step R) → ℕ
   corrections [] = 0

@@ -16,9 +16,9 @@ use Rattle.amplitudelaws.specs.Step.{Step, widthAfter}
 use Rattle.amplitudelaws.specs.Step.Step.{rotation, promotion, projection, correction, quarterTurn}
 use Rattle.framelaws.specs.Caller.{Caller}
 use Rattle.framelaws.specs.Carrying.{carriedStep, passed}
-use Rattle.framelaws.specs.Folded.{kept-past, kept-steps, firing-of}
-use Rattle.framelaws.specs.Folding.{fires, leftOf, foldedSteps, Firing}
-use Rattle.framelaws.specs.Folding.Firing.{firing, keeping}
+use Rattle.framelaws.specs.Folded.{kept-past, kept-steps, firing-of, Firing}
+use Rattle.framelaws.specs.Folding.{fires, leftOf, foldedSteps}
+use Rattle.framelaws.specs.Folded.Firing.{firing, keeping}
 use Rattle.runlaws.specs.Altered.{flag-altered}
 use Rattle.runlaws.specs.Bytes.{byteAt}
 use Rattle.runlaws.specs.Flags.{fieldSize, flagAt, FlagOf, FlagIn}

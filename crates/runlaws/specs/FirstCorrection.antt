@@ -34,6 +34,7 @@ use Rattle.runlaws.specs.Pieces.{Piece, Pieces, piece-size}
 use Rattle.runlaws.specs.Run.{Run, runOf}
 use Rattle.runlaws.specs.RunPieces.{startBytes, RunPieces, run-pieces, pieces-run}
 use Rattle.runlaws.specs.WholeRun.{run-allowed}
+use Rattle.runlaws.specs.WithoutCorrections.{behindStart}
 
 -- ---- without corrections the fields that are left are the carried run's
 
@@ -73,10 +74,6 @@ bare-flagged caller (t ∷ ts) n Q pre bytes p bare =
     ∙ rw (bare .0, kept-past Q t (bare .0))
 
 -- ---- the correction before them
-
--- the correction's field right behind the start field
-unfoldable pub behindStart : Pauli → List ℕ → List ℕ
-behindStart Q s = take 4 s ++ (correctionField Q ++ drop 4 s)
 
 -- the identity times Q, which acts second
 times-identity : (Q : Pauli) → Fitting Q → foldedPast {R = Float} (identity (Q .n)) (correction Q) ≡ Q

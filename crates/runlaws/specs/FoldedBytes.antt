@@ -14,11 +14,11 @@ use Rattle.amplitudelaws.specs.Step.Step.{correction}
 use Rattle.framelaws.specs.Caller.{Caller}
 use Rattle.framelaws.specs.Carried.{after-carried}
 use Rattle.framelaws.specs.Carrying.{carriedStep, passed}
-use Rattle.framelaws.specs.Folded.{kept-past, kept-steps, firing-of}
-use Rattle.framelaws.specs.Folding.{oneFired, fires, leftOf, foldedPast, foldedSteps, foldedEnd, Firing, corrections, Bare}
+use Rattle.framelaws.specs.Folded.{kept-past, kept-steps, firing-of, Firing}
+use Rattle.framelaws.specs.Folding.{oneFired, fires, leftOf, foldedPast, foldedSteps, foldedEnd, corrections, Bare}
 use Rattle.framelaws.specs.FoldedSteps.{bare-end}
 use Rattle.framelaws.specs.Identity.{phase-step, phase-passed, unchanged}
-use Rattle.framelaws.specs.Folding.Firing.{firing, keeping}
+use Rattle.framelaws.specs.Folded.Firing.{firing, keeping}
 use Rattle.runlaws.specs.Fields.{step-field, step-read}
 use Rattle.runlaws.specs.Flags.{fieldSize, flagAt}
 use Rattle.runlaws.specs.Flagged.{flag-length}
@@ -57,7 +57,7 @@ module _ (caller : Caller) (n : ℕ) (t : Step Float) (ts : List (Step Float)) (
   pub piece-long : length (take (fieldSize t) bytes) ≡ fieldSize t
   piece-long = ap length takes ∙ piece-size (p .this)
 
-  pub pieces-long : length bytes ≡ fieldSize t + length (drop (fieldSize t) bytes)
+  pieces-long : length bytes ≡ fieldSize t + length (drop (fieldSize t) bytes)
   pieces-long = ap length (p .both) ∙ length-append (p .first) (p .rest) ∙ rw (piece-size (p .this), drops)
 
 -- ---- the bytes that are left are the pieces of the steps that are left
@@ -82,7 +82,7 @@ module _ (caller : Caller) (ts : List (Step Float)) where
         that = rw (after-carried n Q t) behind;
       })
 
-pub pieces-folded : (caller : Caller) (ts : List (Step Float)) (n : ℕ) (Q : Pauli) (bytes : List ℕ) → Pieces caller n ts bytes
+pieces-folded : (caller : Caller) (ts : List (Step Float)) (n : ℕ) (Q : Pauli) (bytes : List ℕ) → Pieces caller n ts bytes
     → Pieces caller n (foldedSteps Q ts) (foldedFields Q ts bytes)
 unfolding foldedSteps foldedFields
 pieces-folded caller [] n Q bytes p = p
@@ -95,7 +95,7 @@ unfolding leftBytes keptOf fires oneFired fieldSize
 one-length _ (firing P) Q f e = refl
 one-length t (keeping stays) Q f e = rw stays (omega (arith, flag-length 0 (carriedStep Q t) f, e))
 
-pub fields-length : (caller : Caller) (ts : List (Step Float)) (n : ℕ) (Q : Pauli) (bytes : List ℕ) → Pieces caller n ts bytes
+fields-length : (caller : Caller) (ts : List (Step Float)) (n : ℕ) (Q : Pauli) (bytes : List ℕ) → Pieces caller n ts bytes
     → length (foldedFields Q ts bytes) + 20 * corrections ts ≡ length bytes
 unfolding foldedFields corrections
 fields-length caller [] n Q bytes p = omega arith

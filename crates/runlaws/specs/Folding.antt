@@ -31,7 +31,7 @@ use Rattle.framelaws.specs.Surveyed.{survey-width, survey-steps, survey-greates
 use Rattle.runlaws.specs.Calls.{Outcome, onRun, Folding, endingOf, surveyOf, checking, memoryRow, running, carriedRun, carrying, foldingRow, folding}
 use Rattle.runlaws.specs.ClosedUp.{closed-size, closed-up}
 use Rattle.runlaws.specs.Field.{mostBytes}
-use Rattle.runlaws.specs.FirstCorrection.{behindStart, begun, begun-read, begun-folded, begun-end}
+use Rattle.runlaws.specs.FirstCorrection.{begun, begun-read, begun-folded, begun-end}
 use Rattle.runlaws.specs.FoldedBytes.{folded-length, refold, bare-run, bare-identity}
 use Rattle.runlaws.specs.FoldedRun.{foldedRun}
 use Rattle.runlaws.specs.Frame.{Agreeing, sent}
@@ -43,7 +43,7 @@ use Rattle.runlaws.specs.RunPieces.{startBytes, run-pieces}
 use Rattle.runlaws.specs.Sent.{sent-accepted}
 use Rattle.runlaws.specs.Theorem.{may-fire, fired-done}
 use Rattle.runlaws.specs.WholeRun.{run-allowed}
-use Rattle.runlaws.specs.WithoutCorrections.{Accepted, Shorter, Folded, WithoutCorrections}
+use Rattle.runlaws.specs.WithoutCorrections.{behindStart, Accepted, Shorter, Folded, WithoutCorrections}
 
 -- ---- of a run that reads as R
 
@@ -153,7 +153,7 @@ module _ (caller : Caller) (s : List ℕ) (R : Run) (reads : runOf caller s ≡ 
           shorter = shorter caller s R reads;
           ending = endingOf (surveyOf R);
           whole = one .0;
-          folded = two .0 ∙ ap accepted (left-ending R);
+          runs = two .0 ∙ ap accepted (left-ending R);
           alike = alike;
           last = final .width ∙ sym (last-width R);
           behind = rw (two .1) behind;

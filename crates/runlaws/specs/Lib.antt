@@ -29,8 +29,8 @@ pub mod Sent
 pub mod Theorem
 pub mod FoldedBytes
 pub mod ClosedUp
-pub mod FirstCorrection
 pub mod WithoutCorrections
+pub mod FirstCorrection
 pub mod Folding
 pub mod TwoCorrections
 pub mod OneCarry

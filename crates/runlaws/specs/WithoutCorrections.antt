@@ -19,11 +19,17 @@ use Rattle.framelaws.specs.Survey.{Survey}
 use Rattle.runlaws.specs.Bytes.{byteAt}
 use Rattle.runlaws.specs.Calls.{Ending, Folding, checking, running, carrying, folding}
 use Rattle.runlaws.specs.Field.{mostBytes, fieldAt}
-use Rattle.runlaws.specs.FirstCorrection.{behindStart}
 use Rattle.runlaws.specs.Flags.{FlagIn}
 use Rattle.runlaws.specs.FoldedRun.{keptRun}
 use Rattle.runlaws.specs.Frame.{SameNumbers, Agreeing, FiniteRun, fired, sent}
+use Rattle.runlaws.specs.PauliBytes.{correctionField}
 use Rattle.runlaws.specs.Run.{Run, runOf, startWidth}
+
+-- ---- a word
+
+-- the run with a correction of Q right behind its start field
+unfoldable pub behindStart : Pauli → List ℕ → List ℕ
+behindStart Q s = take 4 s ++ (correctionField Q ++ drop 4 s)
 
 -- ---- accepted
 
@@ -61,7 +67,7 @@ pub record Folded (caller : Caller) (s out : List ℕ) (m u : Memory) : Type 0 w
   -- The folded run is accepted too, with the same last width and the steps that are left; and on any buffers exactly where the run is.
   pub ending : Ending
   pub whole : running caller s m .answer ≡ accepted ending
-  pub folded : running caller t u .answer ≡ accepted (record { width = ending .width; steps = length (left .steps) })
+  pub runs : running caller t u .answer ≡ accepted (record { width = ending .width; steps = length (left .steps) })
   pub alike : (w : Memory) → isAccepted (running caller t w .answer) ≡ isAccepted (running caller s w .answer)
   -- Nor does a row refuse the end Pauli behind it, which is on the last qubits.
   pub last : end .n ≡ ending .width

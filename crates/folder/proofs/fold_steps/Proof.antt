@@ -154,7 +154,7 @@ done c =
     let head = at-loop .before .before .before in
     let start = head .before .before .before .before .before .before in
     let end = all-written (at-loop .loop .inv) (ended matched) _ _ (copied .copy2 .ensures .1) refl in
-    let tail = copied-tail _ _ _ (start .pre .0) (start .args .out .now) _ _ (start .pre .1) refl (head .copy .ensures .1) .0 in
+    let tail = copied-tail _ _ _ (start .pre .0) (start .args .out .now) _ _ refl (head .copy .ensures .1) in
     (end .0, end .1 ∙ ap (λ l. foldedRun (runIn (callerOf (start .args .caller)) (start .args .run .now)) (start .args .run .now) ++ l) tail)
 
 same-length : tie.Need-same-length Inv-loop μ-loop

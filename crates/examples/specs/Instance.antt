@@ -1,7 +1,7 @@
 -- The frame theorem's hypotheses can be met: one closed run through every kind of step, carried past Y, on two sets of buffers that differ wherever
 -- the theorem lets them.
 use mathlib.Core.Path.{_≡_, refl, sym, ap, _∙_, subst}
-use mathlib.Core.Bool.{not}
+use mathlib.Core.Bool.{true, not}
 use mathlib.Core.List.{List, [], _∷_}
 use Prim.Native.Nat.{ℕ, zero, suc, _^_, _<_}
 use native.Mathlib.Omega.{arith}
@@ -196,3 +196,14 @@ numbers b h = met .same (subst (λ (t : List ℕ). FiniteRun service t there) (s
 not-all-zeros : T (not (isZero (point (running service run (fired Y here) .lent .state) 0 .re)))
 unfolding running onRun memoryRow surveyOf survey surveyFrom surveyed mixedAmplitudes roomFor room roomRow runOf begun startWidth mapped walk follow ended readAt readField judged judgedBy unless decoded fieldAt isWhole bodyLength number floatAt pauliAt fits hermitian coefficient ys widthAfter stepRow rotationStepRow promotionStepRow projectionStepRow rotationKernelRow measurementRow hermitianRow widthRow unitRow promotedWidthRow pivotRow pivotMask inUnit row first answered left le neg ofBits digit overlap parity ones onesIn stepped leaves.rotation leaves.promotion leaves.projection leaves.correction leaves.scratchAfter leaves.scratchBy written point over rotated rotatedBy rotatedAlone rotatedWith rotationCoefficient promoted raisedQubit projected remaining remainingBy projectionCoefficient minus source corrected timesPower power times conjugate direction negated scale scaled mixed openBit add sub mul ran fired correctionRow
 not-all-zeros = tt
+
+-- ---- demand 3's last sentence, of any run, output, Pauli and buffers
+
+module _ (s out : List ℕ) (Q : Pauli) (m u : Memory) (here : isAccepted (running service s m .answer) ≡ true) (there : isAccepted (running service s u .answer) ≡ true)
+    (carries : isAccepted (carrying service s Q out .answer) ≡ true) (start : Agreeing (Q .n) (m .state) (u .state)) where
+  abbrev of-any : Frame service s out Q m u
+  of-any = frame-at-the-service .accepts s out Q m u (record { here = here; there = there; carries = carries; start = start })
+
+  same-state : FiniteRun service (sent service s Q out) u → (b : ℕ) → b < 2 ^ of-any .ending .width
+      → SameNumbers (point (running service s (fired Q m) .lent .state) b) (point (fired (of-any .end) (running service (sent service s Q out) u .lent) .state) b)
+  same-state = of-any .same

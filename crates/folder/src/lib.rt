@@ -13,16 +13,12 @@ ghost use mathlib.Core.Path.{_≡_};
 ghost use mathlib.Core.List.{_++_};
 ghost use Prim.Native.Nat.{_≤_};
 ghost use lib.ListN.{length, drop};
-ghost use Rattle.paulilaws.specs.Pauli.{identity};
 ghost use Rattle.activepauli.specs.Active.{activeOf};
 ghost use Rattle.callers.specs.Meaning.{callerOf};
 ghost use Rattle.framelaws.specs.Caller.{service, emulator, widestRun};
-ghost use Rattle.framelaws.specs.Folding.{foldedEnd};
 ghost use Rattle.runlaws.specs.Calls.{folding};
-ghost use Rattle.runlaws.specs.FoldedRun.{foldedRun};
-ghost use Rattle.runlaws.specs.OnStart.{runIn};
 ghost use Rattle.folder.specs.Meaning.{foldAnswerOf};
-ghost use Rattle.folder.specs.Foldable.{Foldable};
+ghost use Rattle.folder.specs.Foldable.{leftIn, endIn, Foldable};
 
 // The end Pauli, and how many bytes are left; or the run's own refusal with its place, or 16.
 pub enum FoldAnswer {
@@ -69,7 +65,7 @@ fn fold_for(run: &[u8], out: &mut [u8], caller: Caller) -> FoldAnswer
 // How many bytes are left of a run that was checked. What is no step is the run's end.
 fn left_size(run: &[u8], width: usize, caller: Caller) -> usize
     requires { ⌜ Foldable (callerOf caller) (now run) width ⌝ }
-    ensures { λ r. let s = now (run .entry) in ⌜ r ≡ length (foldedRun (runIn (callerOf caller) s) s) ⌝ }
+    ensures { λ r. ⌜ r ≡ length (leftIn (callerOf caller) (now (run .entry))) ⌝ }
 {
     let mut cursor = Cursor {
         at: fields::START_BYTES,
@@ -90,9 +86,10 @@ fn left_size(run: &[u8], width: usize, caller: Caller) -> usize
 // The same run's fields, written: the Pauli at the end.
 fn fold_steps(run: &[u8], width: usize, out: &mut [u8], caller: Caller) -> ActivePauli
     requires { ⌜ Foldable (callerOf caller) (now run) width ⌝ }
-    requires { ⌜ length (foldedRun (runIn (callerOf caller) (now run)) (now run)) ≤ length (now out) ⌝ }
-    ensures { λ r. let s = now (run .entry) in let R = runIn (callerOf caller) s in let left = foldedRun R s in
-        ⌜ (activeOf r ≡ foldedEnd (identity (R .width)) (R .steps)) × (now (out .exit) ≡ left ++ drop (length left) (now (out .entry))) ⌝ }
+    requires { ⌜ length (leftIn (callerOf caller) (now run)) ≤ length (now out) ⌝ }
+    ensures { λ r. ⌜ activeOf r ≡ endIn (callerOf caller) (now (run .entry)) ⌝ }
+    ensures { λ _. let left = leftIn (callerOf caller) (now (run .entry)) in
+        ⌜ now (out .exit) ≡ left ++ drop (length left) (now (out .entry)) ⌝ }
 {
     let mut cursor = Cursor {
         at: fields::START_BYTES,

@@ -19,8 +19,8 @@ use model::pauli::Pauli;
 use model::run::{Caller, Run, Step};
 use naribhush::{Answer, Folding};
 
-/// What `count` counts: each has to be seen.
-pub const WANTED: [&str; 38] = [
+/// What `count` counts beside `passed::STEPS`: each has to be seen.
+pub const WANTED: [&str; 25] = [
     "run folded",
     "folded run folded again",
     "run without steps",
@@ -35,19 +35,6 @@ pub const WANTED: [&str; 38] = [
     "correction that commutes with what is held",
     "correction that anticommutes with what is held",
     "step passed with nothing held",
-    "rotation, sign kept",
-    "rotation, sign flipped",
-    "promotion",
-    "diagonal projection, branch kept",
-    "diagonal projection, branch flipped",
-    "diagonal projection, Z part at the pivot",
-    "diagonal projection, no Z part at the pivot",
-    "nondiagonal projection, branch kept",
-    "nondiagonal projection, branch flipped",
-    "nondiagonal projection, X part at the pivot",
-    "nondiagonal projection, no X part at the pivot",
-    "quarter turn, frame kept",
-    "quarter turn, frame turned",
     "corrections that come to nothing",
     "end Pauli with phase 0",
     "end Pauli with phase 1",
@@ -365,9 +352,9 @@ mod tests {
             assert_eq!(folded.end, end);
             let mut seen = Tally::default();
             count(&mut seen, who, &original, &folded);
-            let cases = WANTED.iter().filter(|name| !name.starts_with("output"));
-            for name in cases {
-                let told = names.iter().find(|(wanted, _)| wanted == name);
+            let cases = passed::STEPS.into_iter().chain(WANTED);
+            for name in cases.filter(|name| !name.starts_with("output")) {
+                let told = names.iter().find(|(wanted, _)| *wanted == name);
                 assert_eq!(seen.count(name), told.map_or(0, |told| told.1), "{name}");
             }
         }

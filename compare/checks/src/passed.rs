@@ -4,6 +4,23 @@ use model::carry::{carry_step, takes_product};
 use model::pauli::Pauli;
 use model::run::Step;
 
+/// Those of steps that are no corrections.
+pub const STEPS: [&str; 13] = [
+    "rotation, sign kept",
+    "rotation, sign flipped",
+    "promotion",
+    "diagonal projection, branch kept",
+    "diagonal projection, branch flipped",
+    "diagonal projection, Z part at the pivot",
+    "diagonal projection, no Z part at the pivot",
+    "nondiagonal projection, branch kept",
+    "nondiagonal projection, branch flipped",
+    "nondiagonal projection, X part at the pivot",
+    "nondiagonal projection, no X part at the pivot",
+    "quarter turn, frame kept",
+    "quarter turn, frame turned",
+];
+
 /// One name for each step, and a second one for a projection.
 pub fn names(frame: Pauli, step: Step) -> Vec<&'static str> {
     let mut names = vec![kind(frame, step)];

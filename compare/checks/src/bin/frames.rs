@@ -28,23 +28,10 @@ const RUNS: u64 = 1_000_000;
 const SEED: u64 = 1;
 const ROUNDS: usize = 4;
 
-/// Counted in finite runs only, and each has to be seen there.
-const WANTED: [&str; 19] = [
-    "rotation, sign kept",
-    "rotation, sign flipped",
-    "promotion",
-    "diagonal projection, branch kept",
-    "diagonal projection, branch flipped",
-    "diagonal projection, Z part at the pivot",
-    "diagonal projection, no Z part at the pivot",
-    "nondiagonal projection, branch kept",
-    "nondiagonal projection, branch flipped",
-    "nondiagonal projection, X part at the pivot",
-    "nondiagonal projection, no X part at the pivot",
+/// Counted in finite runs only, and each has to be seen there, as each of `passed::STEPS`.
+const WANTED: [&str; 6] = [
     "correction, phase kept",
     "correction, phase raised",
-    "quarter turn, frame kept",
-    "quarter turn, frame turned",
     "empty list",
     "list that ends on no qubits",
     "list that reaches the widest state",
@@ -132,7 +119,7 @@ impl Seen {
             println!("{width:>11}  {runs}");
         }
         println!("steps and lists of the finite runs");
-        for name in WANTED {
+        for name in passed::STEPS.into_iter().chain(WANTED) {
             println!("  {name:46} {:>9}", self.steps.count(name));
         }
         self.amplitudes.print();
@@ -147,8 +134,9 @@ impl Seen {
     fn missing(&self, who: Who) -> Vec<&'static str> {
         let least = self.starts(who).iter().min().copied();
         let width = unseen(&[(least.unwrap_or(0), "some start width")]);
-        let steps = self.steps.missing(&WANTED);
-        [steps, width, self.amplitudes.missing()].concat()
+        let steps = self.steps.missing(&passed::STEPS);
+        let lists = self.steps.missing(&WANTED);
+        [steps, lists, width, self.amplitudes.missing()].concat()
     }
 }
 
@@ -302,14 +290,16 @@ impl Folds {
 
     fn print(&self) {
         println!("runs folded, by the service's calls and by the emulator's");
+        self.seen.print(&passed::STEPS);
         self.seen.print(&folding::WANTED);
         println!("the run, and the folded run with its end Pauli behind it, by either caller");
         self.amplitudes.print();
     }
 
     fn missing(&self) -> Vec<&'static str> {
+        let steps = self.seen.missing(&passed::STEPS);
         let cases = self.seen.missing(&folding::WANTED);
-        [cases, self.amplitudes.missing()].concat()
+        [steps, cases, self.amplitudes.missing()].concat()
     }
 }
 

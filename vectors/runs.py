@@ -7,13 +7,17 @@
                                          the first line that differs, or how many answers of each kind agree
     runs.py bench < run > text           what the program `bench` prints of a run
     runs.py listings PROGRAM SEED COUNT  COUNT random runs given to PROGRAM (target/bin/bench) as well, and compared so
+    runs.py pairs PROGRAM SEED COUNT     COUNT random runs and Paulis that carrying accepts: the two files of E6 given to
+                                         PROGRAM (target/bin/bench), what it prints compared with `listing` and, where
+                                         both fit and the premise holds, with each other
 
 Written from the scope's text (document 01) and, for quarter turns, the emulator,
-merged corrections, the search for a start and runs without corrections, from requests E13,
-E8, E11, E12 and E2 (document 02), which the comments quote, without the Rattle's definitions
-of runs; its writer had seen the Rattle code of reader and checker before, the writers of the
-emulator's part and of merged corrections were told to open none, the writer of the search for
-a start was told not to open the Rattle code of the seeker, the writer of runs without
+merged corrections, the search for a start, runs without corrections and one zero in listings,
+from requests E13, E8, E11, E12, E2 and E6 (document 02), which the comments quote, without the
+Rattle's definitions of runs; its writer had seen the Rattle code of reader and checker before,
+the writers of the emulator's part, of merged corrections and of E6's parts (the zeros of
+`listing`, `both-show` and `pairs`) were told to open none, the writer of the search for a
+start was told not to open the Rattle code of the seeker, the writer of runs without
 corrections that of the folder, the carrier and passing. It shares no code with the Rattle or
 the Rust. The kernels' steps are those of model.py; a quarter turn is its rotation.
 
@@ -53,6 +57,12 @@ between; `3*` before a piece stands for three of it.
                                     on the last qubits, else `differ`. `unread` as for merge, of one number, which is
                                     66,000 or less
     fold-equal RUN | re | im        E2: for each basis the amplitude of (run) and of (folded run, end Pauli), then as both
+    both-show RUN width k x z       E6: the Pauli is carried into an output of 66,000 bytes; of the run with it as a correction
+                                    right after start, and of the carried run with the end Pauli as one right before end,
+                                    what `bench` prints: its length, then the text with `/` for each newline or, where it
+                                    is more than 400 bytes, a digest of it as it is; then `same` where the two are equal
+                                    text, else `differ`. A refusal is carrying's. `unread` as for merge, of four numbers;
+                                    there is no emulated form, which is `unread`
 
     emulated-step RUN at width
     emulated-check RUN
@@ -81,8 +91,8 @@ from model import Pauli, Refused, number, parity, refuse, shown
 
 LONGEST = 65536
 FILLED = 0xEE
-HELD = 66000  # Bytes of each output of `merge`, `seeker` and `fold-equal`, and of the longest run that they read.
-SPELLED = 400  # Bytes of the longest folded run that is shown whole.
+HELD = 66000  # Bytes of each output of `merge`, `seeker`, `fold-equal` and `both-show`, and of the longest run that they read.
+SPELLED = 400  # Bytes of the longest folded run, and of the longest listing, that is shown whole.
 ROOM = 160  # Floats that a lent buffer may have.
 
 
@@ -486,6 +496,28 @@ def against(left, last, run, end, caller, re, im):
     return lines, ("same", "nan", "differ")[worst], finite
 
 
+# ------------------------------------------------------------- both listings
+
+
+def two_files(run, pauli, carried, end):
+    """One file is the run with the Pauli as a correction right after start, the other the carried run with the end
+    Pauli as one right before end."""
+    first, last = (correcting((one.k, one.x, one.z)) for one in (pauli, end))
+    return run[:4] + first + run[4:], carried[:-3] + last + carried[-3:]
+
+
+def stays_finite(carried):
+    """The premise from basis 0: every amplitude of the carried run is finite at its start and after each step."""
+    finite = True
+
+    def seen(width, re, im):
+        nonlocal finite
+        finite = finite and all(abs(x) < float("inf") for x in re[: 2**width] + im[: 2**width])
+
+    from_basis_0(carried, seen)
+    return finite
+
+
 # ------------------------------------------------------------------- the text
 
 
@@ -654,6 +686,24 @@ def told_fold_equal(run, caller, words, re, im):
     return told_sides(folded_sides(run, caller, re, im), "E2")
 
 
+def told_listing(text):
+    whole = text.replace("\n", "/") if len(text) <= SPELLED else f"{digest(text.encode()):016x}"
+    return f"{len(text)} {whole}"
+
+
+def told_listings(run, caller, words):
+    """Where both files fit in 65,536 bytes and the premise holds from basis 0, both listings must be equal text. Files that
+    do not fit are refused alike."""
+    if caller == EMULATOR or len(run) > HELD or len(words) != 4:
+        return "unread"
+    pauli = Pauli(*words)
+    carried, end = carry(run, caller, pauli, HELD)
+    texts = [listing(file) for file in two_files(run, pauli, carried, end)]
+    verdict = "same" if texts[0] == texts[1] else "differ"
+    assert verdict == "same" or not stays_finite(carried), "E6"
+    return " | ".join([*map(told_listing, texts), verdict])
+
+
 def answer(line):
     if line.startswith("#"):
         return line
@@ -687,6 +737,8 @@ def answer(line):
             return told_fold(run, caller, words)
         if name == "fold-equal":
             return told_fold_equal(run, caller, words, *buffers)
+        if name == "both-show":
+            return told_listings(run, caller, words)
         if name == "passing":
             return told_past(run[0], words, *buffers)
         assert name == "run"
@@ -794,6 +846,12 @@ def fold_line(text, room):
 
 def equal_line(text, re, im):
     return f"fold-equal {text} |{floats(re)} |{floats(im)}"
+
+
+def show_line(text, pauli):
+    """The Pauli with its width."""
+    n, k, x, z = pauli
+    return f"both-show {text} {n} {k} {x:#x} {z:#x}"
 
 
 def length(text):
@@ -2896,6 +2954,19 @@ def random_corrected(rng, n, steps, widest):
     return [*run, END]
 
 
+def random_scaled(rng, n, steps, widest):
+    """As random_run; before a step a qubit may be made and measured at once, by which each amplitude is multiplied: out of the
+    finite floats, or to 0, at once or the second time."""
+    run = [starting(n)]
+    for _ in range(steps):
+        if n < widest and rng.randrange(2):
+            scale = rng.choice([1e308, 1e308, -1e308, 1.7976931348623157e308, 1e200, 1e-200, -5e-324])
+            run += [promoting(1.0, 0.0), projecting((0, 0, 1 << n), n, 0, scale)]
+        step, n = random_step(rng, n, widest)
+        run.append(step)
+    return [*run, END]
+
+
 def random_float(rng, finite=True):
     x = rng.choice([rng.uniform(-1, 1)] * 5 + [0.0, -0.0, 0.5, -0.5, 1.0, -1.0, 5e-324, -5e-324, 1e-310])
     return x if finite or rng.randrange(4) else rng.choice([INFINITY, -INFINITY, NAN, 1e308])
@@ -3109,6 +3180,272 @@ def count_folding(counts, run):
         pauli = passed(pauli, step)[1]
 
 
+# Single steps from basis 0: the width, the Pauli, the step, and what the two files leave by hand, which is the same in bits where
+# it is given once.
+C, S, H = 0.6, 0.8, model.H
+SINGLE_STEPS = [
+    # Rotations by Z, X and Y: the sign flips, and stays.
+    (1, X, rotating(Z), [(0.0, 0.0), (C, S)]),
+    (1, Z, rotating(Z), [(C, -S), (0.0, -0.0)], [(C, -S), (-0.0, -0.0)]),
+    (1, Z, rotating(X), [(C, 0.0), (0.0, -S)], [(C, 0.0), (-0.0, -S)]),
+    (1, X, rotating(X), [(0.0, -S), (C, 0.0)]),
+    (1, X, rotating(Y), [(-S, 0.0), (C, 0.0)]),
+    (1, Z, rotating(Y), [(C, 0.0), (S, 0.0)], [(C, 0.0), (S, -0.0)]),
+    (1, Y, rotating(Y), [(0.0, -S), (0.0, C)], [(0.0, -S), (-0.0, C)]),
+    # Promotions: from no qubit, where the Pauli is a phase, and from one.
+    (0, (1, 0, 0), promoting(), [(-0.0, C), (-S, -0.0)]),
+    (1, X, promoting(), [(0.0, 0.0), (C, 0.0), (-0.0, 0.0), (-0.0, S)]),
+    # Projections of Z, -Z and ZZ: the branch flips; the Pauli is absorbed; both; neither.
+    (1, X, projecting(Z, 0, 1, 2.0), [(2.0, 0.0)]),
+    (1, Z, projecting(Z, 0, 1, 2.0), [(-0.0, -0.0)]),
+    (1, Y, projecting(Z, 0, 0, 2.0), [(0.0, -0.0)]),
+    (1, Y, projecting(Z, 0, 1, 2.0), [(-0.0, 2.0)]),
+    (1, X, projecting((2, 0, 1), 0, 0, -1.0), [(-1.0, -0.0)]),
+    (2, (0, 3, 0), projecting((0, 0, 3)), [(0.0, 0.0), (1.0, 0.0)]),
+    # Of X, XX and Y: the branch flips; the Pauli is absorbed; both; neither; both.
+    (1, Z, projecting(X), [(H, 0.0)]),
+    (1, X, projecting(X, 0, 1), [(-H, 0.0)], [(-H, -0.0)]),
+    (1, Y, projecting(X), [(0.0, H)], [(-0.0, H)]),
+    (2, (0, 0, 3), projecting((0, 3, 0), 1), [(H, 0.0), (-0.0, 0.0)], [(H, 0.0), (-0.0, -0.0)]),
+    (1, X, projecting(Y), [(0.0, -H)]),
+    # Corrections: the phase rises, stays, rises.
+    (1, Z, correcting(X), [(-0.0, -0.0), (1.0, 0.0)]),
+    (1, Z, correcting(Z), [(1.0, 0.0), (0.0, 0.0)]),
+    (1, X, correcting(Y), [(0.0, -1.0), (-0.0, 0.0)]),
+    # Quarter turns: X becomes Y, Z stays, Z becomes -Y.
+    (1, X, turning(Z), [(0.0, 0.0), (H, H)], [(0.0, -0.0), (H, H)]),
+    (1, Z, turning(Z), [(H, -H), (0.0, -0.0)], [(H, -H), (-0.0, -0.0)]),
+    (1, Z, turning(X), [(H, 0.0), (0.0, -H)]),
+]
+
+
+def basis_0(n):
+    """Amplitude (1, 0) at basis 0."""
+    return [1.0] + [0.0] * (2**n - 1), [0.0] * 2**n
+
+
+def by_hand(side):
+    """The listing of these amplitudes as both-show tells it: 0 added to either zero is +0."""
+    text = f"qubits {len(side).bit_length() - 1}/"
+    text += "".join(f"{b}{floats([re + 0.0, im + 0.0])}/" for b, (re, im) in enumerate(side))
+    return f"{len(text)} {text}"
+
+
+def list_both(lines, n, steps, q, left, right=None, verdict="same", numbers="same"):
+    """What the two files leave, by hand, as listings and in bits."""
+    text, right = spelled(starting(n), *steps, END), right or left
+    lines.ask(show_line(text, (n, *q)), " | ".join([by_hand(left), by_hand(right), verdict]))
+    bits = [f"{b}{floats([*one, *other])}" for b, (one, other) in enumerate(zip(left, right))]
+    lines.ask(both_line(text, n, q, *basis_0(n)), " | ".join([*bits, numbers]))
+
+
+def former_texts(run, pauli):
+    """What `bench` printed of the two files before E6, by `shown`, and prints now."""
+    each = [listed(file, shown, printed) for file in two_files(run, pauli, *carry(run, SERVICE, pauli, HELD))]
+    return tuple(zip(*each))
+
+
+def both_listings():
+    """E6: both files' listings, by hand, of runs of every kind, at the limits, refused, unread and random."""
+    lines = Lines()
+    listing_single_steps(lines)
+    listing_kinds(lines)
+    listing_wide(lines)
+    listing_infinite(lines)
+    listing_longest(lines)
+    listing_refused(lines)
+    listing_unread(lines)
+    listing_random(lines)
+    return lines.lines
+
+
+def listing_single_steps(lines):
+    lines.say("Both listings, and in bits what is left from basis 0: no step, where both files are the same.")
+    for n, q, side in (
+        (0, I, [(1.0, 0.0)]),
+        (0, (1, 0, 0), [(-0.0, 1.0)]),
+        (0, (2, 0, 0), [(-1.0, -0.0)]),
+        (1, X, [(0.0, 0.0), (1.0, 0.0)]),
+        (1, Z, [(1.0, 0.0), (-0.0, -0.0)]),
+        (1, (3, 1, 1), [(-0.0, 0.0), (0.0, -1.0)]),
+    ):
+        list_both(lines, n, [], q, side)
+    lines.say("Each kind of step, by hand: where the bits differ in a zero's sign, the listings do not.")
+    differed = 0
+    for n, q, step, *sides in SINGLE_STEPS:
+        list_both(lines, n, [step], q, *sides)
+        former, now = former_texts(starting(n) + step + END, Pauli(n, *q))
+        assert (former[0] != former[1]) == (len(sides) == 2) and now[0] == now[1]
+        differed += former[0] != former[1]
+    assert differed == 9
+
+
+def listing_kinds(lines):
+    lines.say("Every kind of step in one run, from none to four qubits.")
+    grown = [starting(2), promoting(), rotating((1, 5, 4)), promoting(S, -C), turning((0, 12, 3)), projecting((2, 0, 10), 3, 1), END]
+    four = [starting(4), turning((0, 15, 0)), rotating((0, 0, 9), 1), correcting((1, 8, 3)), rotating((1, 6, 12)), END]
+    differed = 0
+    for run, n, paulis in (
+        (EVERY_KIND, 2, [(0, 1, 2), (1, 3, 3), (2, 2, 0)]),
+        (FROM_NONE, 0, [(3, 0, 0)]),
+        (DIAGONAL, 1, [X, Z]),
+        (TURNS, 0, [(2, 0, 0)]),
+        (grown, 2, [(0, 3, 1), (3, 0, 2)]),
+        (four, 4, [(0, 0, 5), (1, 10, 7)]),
+    ):
+        for q in paulis:
+            line = show_line(spelled(*run), (n, *q))
+            assert answer(line).endswith(" | same")
+            lines.ask(line)
+            lines.ask(both_line(spelled(*run), n, q, *basis_0(n)))
+            former, _ = former_texts(b"".join(run), Pauli(n, *q))
+            differed += former[0] != former[1]
+    assert differed > 3, differed
+
+
+def listing_wide(lines):
+    lines.say("Twelve qubits: X on the top one and no step, 158,644 bytes; reached by promotions; three steps; eleven left.")
+    top = 1 << 11
+    projected = [rotating((0, 0, 0xFFF)), projecting((0, 0xFFF, 0), 11, 1)]
+    for n, q, steps, size in (
+        (12, (0, top, 0), [], 158644),
+        (0, (3, 0, 0), [(12, promoting())], 158644),
+        (12, (2, 0x5A5, 0xC3C), [rotating((1, top | 1, top)), turning((0, 0xFFF, 0)), correcting((3, 0xF, 0xF0))], 158644),
+        (12, (0, 1, 0x801), projected, 10 + 10 * 36 + 90 * 37 + 900 * 38 + 1048 * 39),
+    ):
+        line = show_line(spelled(starting(n), *steps, END), (n, *q))
+        first, second, verdict = answer(line).split(" | ")
+        assert first == second and first.startswith(f"{size} ") and verdict == "same"
+        lines.ask(line)
+
+
+def listing_infinite(lines):
+    """1e308 times itself is an infinity: E6 promises nothing."""
+    overflow = [projecting((0, 0, 4), 2, 0, 1e308), projecting((0, 0, 2), 1, 0, 1e308)]
+    lines.say("An infinity on the way, where nothing is promised: times 0 on one side only, and the texts differ.")
+    list_both(lines, 3, [*overflow, correcting(), projecting()], X, [(INFINITY, 0.0)], [(INFINITY, NAN)], "differ", "differ")
+    lines.say("It is left by both; times 0 by both; left by neither. The texts are equal.")
+    list_both(lines, 3, overflow, X, [(0.0, 0.0), (INFINITY, 0.0)])
+    list_both(lines, 3, [*overflow, projecting(Z, 0, 1, 0.0)], X, [(NAN, 0.0)], None, "same", "nan")
+    list_both(lines, 3, [*overflow, projecting(Z)], X, [(0.0, 0.0)])
+    for last in ([correcting(), projecting()], [], [projecting(Z, 0, 1, 0.0)], [projecting(Z)]):
+        carried, _ = carry(b"".join([starting(3), *overflow, *last, END]), SERVICE, Pauli(3, *X), HELD)
+        assert not stays_finite(carried)
+    lines.say("2^1023 times, then 2^-1022 times: finite.")
+    scaled = [projecting((0, 0, 2), 1, 0, 2.0**1023), promoting(1.0, 0.0), projecting((0, 0, 2), 1, 0, 2.0**-1022)]
+    list_both(lines, 2, scaled, Z, [(2.0, 0.0), (-0.0, -0.0)])
+
+
+def listing_longest(lines):
+    lines.say("A run of 65,516 bytes: both files are 65,536. Rotations by X with c 1 and s 0, and X 3,244 times: by hand.")
+    still, ones = rotating(X, 0, 1.0, 0.0), [(1.0, 0.0), (0.0, 0.0)]
+    run = lambda rotation, *pieces: spelled(starting(1), rotation, *pieces, END)
+    fits = run((17, still), (3244, correcting()))
+    assert length(fits) == LONGEST - 20
+    for q, side in ((Z, ones), (X, ones[::-1]), (I, ones)):
+        lines.ask(show_line(fits, (1, *q)), " | ".join([by_hand(side), by_hand(side), "same"]))
+    lines.say("17 rotations, and quarter turns, whole rounds of them.")
+    turned = run((17, rotating()), (3244, turning(Z)))
+    assert length(turned) == LONGEST - 20
+    for q in (X, Z, Y):
+        assert answer(show_line(turned, (1, *q))).endswith(" | same")
+        lines.ask(show_line(turned, (1, *q)))
+    lines.say("65,517 bytes, then 65,536: both files are refused by 14. 65,537 and 66,000: carrying refuses.")
+    for text, size in ((run((10, still), (3257, correcting())), LONGEST - 19), (run((17, still), (3245, correcting())), LONGEST)):
+        assert length(text) == size
+        for q in (X, I):
+            lines.ask(show_line(text, (1, *q)), "11 refused 14/ | 11 refused 14/ | same")
+        lines.ask(show_line(text, (2, *X)), "refused 4")
+    over = run((10, still), (3258, correcting()))
+    assert length(over) == LONGEST + 1
+    for text in (over, spelled(starting(1), END, (HELD - 7, bytes(1)))):
+        lines.ask(show_line(text, (1, *X)), "refused 14 at 0")
+        lines.ask(show_line(text, (257, *X)), "refused 14 at 0")
+
+
+def listing_refused(lines):
+    lines.say("Refused as carrying is: the run's row and place, before 3 and 4 of the Pauli; these.")
+    for place, (run, told) in enumerate(REFUSED_RUNS):
+        pauli = ((2, *X), (3, 0, 4, 0), (2, 4, 0, 0), (257, *I))[place % 4]
+        lines.ask(show_line(spelled(*run), pauli), f"refused {told}")
+    good = spelled(starting(2), rotating((0, 0, 1)), END)
+    for row, paulis in (
+        (3, [(2, 4, 0, 0), (2, 0, 4, 0), (2, 0, 0, 4), (257, *I), (3, 4, 0, 0), (1, 0, 2, 0), (2**64 - 1, *I)]),
+        (4, [(0, *I), (1, *X), (3, *X), (12, *I), (256, *I)]),
+    ):
+        for pauli in paulis:
+            lines.ask(show_line(good, pauli), f"refused {row}")
+
+
+def listing_unread(lines):
+    lines.say("Not read: no number, one too few, one too many; a run of 66,001 bytes; for the emulator, which has no listing.")
+    text = spelled(starting(1), END)
+    whole = show_line(text, (1, *X))
+    for line in (f"both-show {text}", whole.rpartition(" ")[0], whole + " 0x1"):
+        lines.ask(line, "unread")
+        lines.ask(on_emulator(line), "unread")
+    lines.ask(show_line(spelled(starting(1), END, (HELD - 6, bytes(1))), (1, *X)), "unread")
+    for line in (whole, show_line(spelled(), (1, *X)), show_line(spelled(starting(7), END), (7, *X))):
+        lines.ask(on_emulator(line), "unread")
+
+
+def listing_random(lines):
+    rng, counts = random.Random(66), Counter()
+    lines.say("Random runs from 0 to 4 qubits, in bits too up to 2: the same by E6.")
+    for place in range(40):
+        n = place % 5
+        run = random_run(rng, n, rng.randrange(3, 9), 5)
+        q = random_phased(rng, n)
+        line = show_line(spelled(*run), (n, *q))
+        assert answer(line).endswith(" | same")
+        lines.ask(line)
+        if n < 3:
+            lines.ask(both_line(spelled(*run), n, q, *basis_0(n)))
+        former, now = former_texts(b"".join(run), Pauli(n, *q))
+        counts["a zero's sign"] += former[0] != former[1]
+        counts["zeros alike"] += former[0] == former[1] != now[0]
+        count_carrying(counts, b"".join(run), Pauli(n, *q))
+    wanted = ["a zero's sign", "zeros alike", "promotion"]
+    wanted += [(kind, flag) for kind in ("correction", "quarter-turn") for flag in (0, 1)]
+    wanted += [("rotation", mask, flag) for mask in ("z", "x", "xz") for flag in (0, 1)]
+    wanted += [("projection", mask, flip, met) for mask in ("z", "x") for flip in (0, 1) for met in (0, 1)]
+    assert all(counts[what] > 1 for what in wanted), counts
+    lines.say("With floats that overflow, or vanish: equal texts and others.")
+    told = Counter()
+    while min(told["same"], told["differ"]) < 4:
+        n = rng.randrange(4)
+        run = random_scaled(rng, n, rng.randrange(2, 6), 4)
+        q = random_phased(rng, n)
+        carried, _ = carry(b"".join(run), SERVICE, Pauli(n, *q), HELD)
+        line = show_line(spelled(*run), (n, *q))
+        verdict = answer(line).rpartition(" ")[2]
+        if stays_finite(carried) or told[verdict] == 4:
+            continue
+        told[verdict] += 1
+        lines.ask(line)
+
+
+def masks_of(pauli):
+    return "z" if pauli.x == 0 else "xz" if pauli.z else "x"
+
+
+def count_carrying(counts, run, pauli):
+    """What the Pauli meets on its way: a rotation by its masks and a quarter turn, each flipped or turned or not; a projection with
+    or without X part, whether it flips and whether its pivot is met; a correction that raises its phase or not."""
+    for _, step in walk(run, SERVICE)[1]:
+        kind, *rest = step
+        flips = 0 if kind == "promotion" else anticommute(pauli, rest[0])
+        if kind == "rotation":
+            counts[kind, masks_of(rest[0]), flips] += 1
+        elif kind == "projection":
+            counts[kind, "x" if rest[0].x else "z", flips, meets(pauli, *rest[:2])] += 1
+        elif kind == "promotion":
+            counts[kind] += (pauli.x | pauli.z) > 0
+        else:
+            counts[kind, flips] += 1
+        pauli = passed(pauli, step)[1]
+
+
 def buffers_of(line):
     return [[number(int(word, 16)) for word in part.split()] for part in line.split("|")[1:]]
 
@@ -3196,10 +3533,12 @@ def random_buffer(rng, exact):
 
 def random_line(rng):
     shares = {"check": 20, "run": 16, "carry": 16, "passing": 8, "both": 11, "step": 8, "merge": 8, "seeker": 10, "field": 4, "start": 4, "cuts": 1}
-    shares |= {"fold-into": 20, "fold-equal": 11}
+    shares |= {"fold-into": 20, "fold-equal": 11, "both-show": 12}
     call = rng.choices(list(shares), list(shares.values()))[0]
     if call == "passing":
         return random_pass(rng)
+    if call == "both-show":
+        return random_show(rng)
     if call in ("check", "run", "carry", "both", "step", "merge", "seeker", "fold-into", "fold-equal") and rng.randrange(3) == 0:
         # The emulator, and some of the same runs on the service: around its six qubits and few.
         line = random_run_line(rng, call, *rng.choice([(2, 6), (4, 7), (5, 6), (5, 7), (5, 8), (6, 6), (6, 7), (6, 8), (7, 8)]))
@@ -3246,6 +3585,16 @@ def random_run_line(rng, call, n, widest):
         out = max(0, len(run) + rng.choice([0, 0, 0, 1, 5, -1, -len(run), 250]))
         return carry_line(text, width, q, out)
     return both_line(text, width, q, *random_state(rng, first, rng.randrange(5) > 0))
+
+
+def random_show(rng):
+    """Few from many qubits, whose listings are long; few for the emulator, which has none."""
+    n = rng.choice([0, 1, 1, 2, 2, 2, 3, 3, 4, 5, 6, rng.randrange(13)])
+    made = rng.choice([random_run, random_corrected, random_scaled])
+    text, _ = random_text(rng, n, max(n, rng.choice([2, 3, 4, 5, 6, 7, 12])), made)
+    line = show_line(text, any_pauli(rng, n))
+    kind = rng.randrange(40)
+    return rng.choice([line + " 0", line.rpartition(" ")[0]]) if kind == 0 else on_emulator(line) if kind == 1 else line
 
 
 def any_pauli(rng, n):
@@ -3305,7 +3654,7 @@ def kind_of(asked, told):
     name = call.removeprefix(EMULATED)
     if name == "merge" and "refused" in words:
         return f"{call} refused {words[words.index('refused') + 1]} of A"
-    judged = name in ("both", "merge", "seeker", "fold-into", "fold-equal")
+    judged = name in ("both", "merge", "seeker", "fold-into", "fold-equal", "both-show")
     return f"{call} {words[-1] if judged else 'answered' if words[0].isdigit() else words[0]}"
 
 
@@ -3338,19 +3687,34 @@ def fuzz(program, seed, count):
 # ----------------------------------------------------------------- the bench
 
 
-def listing(run):
-    """Starts from amplitude (1, 0) at basis 0, and prints `qubits` and the last width, then each basis
-    (decimal), re bits and im bits (16 lower-case hexadecimal digits, any NaN as 7ff8000000000000); or
-    `refused N`."""
+def printed(x):
+    """16 lower-case hexadecimal digits, any NaN as 7ff8000000000000; E6: sixteen 0 digits for either zero."""
+    return "0" * 16 if x == 0 else shown(x)
+
+
+def from_basis_0(run, seen=lambda width, re, im: None):
+    """Starts from amplitude (1, 0) at basis 0; the last width, re and im. `seen` is told them on the way."""
     state, left = 2**SERVICE.widest, 2 ** (SERVICE.widest - 1)
     sizes = state, state, left, left
     re, im, *scratch = ([0.0] * size for size in sizes)
     re[0] = 1.0
+    width, _ = run_whole(run, SERVICE, re, im, *scratch, lambda width: seen(width, re, im))
+    return width, re, im
+
+
+def listed(run, *ways):
+    """Prints `qubits` and the last width, then each basis (decimal), re bits and im bits; or `refused N`. A text for each
+    way to print a float."""
     try:
-        width, _ = run_whole(run, SERVICE, re, im, *scratch)
+        width, re, im = from_basis_0(run)
     except (Refused, RefusedAt) as refusal:
-        return f"refused {refusal.args[0]}\n"
-    return f"qubits {width}\n" + "".join(f"{b} {shown(re[b])} {shown(im[b])}\n" for b in range(2**width))
+        return [f"refused {refusal.args[0]}\n" for _ in ways]
+    each = lambda way: "".join(f"{b} {way(re[b])} {way(im[b])}\n" for b in range(2**width))
+    return [f"qubits {width}\n" + each(way) for way in ways]
+
+
+def listing(run):
+    return listed(run, printed)[0]
 
 
 def listings(program, seed, count):
@@ -3372,9 +3736,64 @@ def listings(program, seed, count):
     return True
 
 
+def random_pair(rng):
+    """A run that carrying accepts and a Pauli on its start qubits; once in a while one whose files are about 65,536 bytes, which
+    are few-qubit steps over and over."""
+    n = rng.randrange(13)
+    if rng.randrange(100) == 0:
+        n %= 3
+        steps = [random_step(rng, n, n)[0] for _ in range(8)]
+        steps = [step for step in steps if step[0] != 4] or [turning(I)]
+        run, size = starting(n), LONGEST - 20 + rng.choice([0, 0, 1, 10, 20])
+        while len(run) + 40 < size:
+            run += rng.choice(steps)
+        # As near to the size as the lengths of a rotation and of a correction come.
+        fits = [piece for piece in (rotating(I), correcting(I)) if len(run + piece + END) <= size]
+        run += fits[0] if fits else b""
+        return run + END, Pauli(n, *random_phased(rng, n))
+    made = rng.choice([random_run, random_run, random_corrected, random_scaled])
+    run = made(rng, n, rng.randrange(8), max(n, rng.choice([2, 4, 7, 12])))
+    return b"".join(run), Pauli(n, *random_phased(rng, n))
+
+
+def pairs(program, seed, count):
+    """As many of each kind as agree, or the first that is wrong."""
+    rng, kinds = random.Random(seed), Counter()
+    for _ in range(count):
+        run, pauli = random_pair(rng)
+        carried, end = carry(run, SERVICE, pauli, HELD)
+        files = two_files(run, pauli, carried, end)
+        got = [subprocess.run([program], input=file, capture_output=True, check=True).stdout.decode() for file in files]
+        each = [listed(file, shown, printed) for file in files]
+        former, wanted = zip(*each)
+        for file, text, told in zip(files, wanted, got):
+            if told != text:
+                print(f"differs\n{file.hex()}\nmodel:\n{text}program:\n{told}")
+                return False
+        same = got[0] == got[1]
+        if len(files[0]) > LONGEST:
+            kind, due = "over 65,536 bytes", True
+        else:
+            due = stays_finite(carried)
+            kind = "with the premise" if due else "without the premise"
+        if due and not same:
+            print(f"differ {kind}\n{run.hex()}\n{pauli.shown()}\n{got[0]}{got[1]}")
+            return False
+        kinds[kind] += 1
+        if kind == "with the premise":
+            kinds["with the premise, and differed before E6"] += former[0] != former[1]
+        elif not due:
+            kinds[f"{kind}, {'agreed' if same else 'differed'}"] += 1
+    print(f"{count} pairs agree")
+    for kind, times in sorted(kinds.items()):
+        print(f"  {kind}: {times}")
+    return True
+
+
 def write(crates):
     lines = [*limits(), "# ---- both ways of demand 3", *replay(), "# ---- two corrections, one carry", *merges()]
     lines += ["# ---- starts for ends", *starts_for_ends(), "# ---- runs without corrections", *folded_runs()]
+    lines += ["# ---- both listings", *both_listings()]
     for file, texts in (("stdin", lines), ("stdout", map(answer, lines))):
         with open(f"{crates}/run_vectors/{file}", "w") as out:
             out.write("".join(text + "\n" for text in texts))
@@ -3390,6 +3809,8 @@ if __name__ == "__main__":
         sys.stdout.write(listing(sys.stdin.buffer.read()))
     elif command == "listings":
         sys.exit(not listings(rest[0], int(rest[1]), int(rest[2])))
+    elif command == "pairs":
+        sys.exit(not pairs(rest[0], int(rest[1]), int(rest[2])))
     else:
         for line in sys.stdin:
             print(answer(line.rstrip("\n")))

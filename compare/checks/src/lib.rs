@@ -29,5 +29,6 @@ pub mod tally;
 pub mod totals;
 pub mod trials;
 pub mod two_callers;
+pub mod two_files;
 pub mod two_ways;
 pub mod wide;

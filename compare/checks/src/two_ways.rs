@@ -221,7 +221,7 @@ pub fn ran(
 
 /// Runs the list one step at a time on buffers of the same contents: whether each step leaves finite
 /// amplitudes alone. In the end the buffers are those of the whole run.
-fn step_by_step(
+pub fn step_by_step(
     lender: &Lender,
     dice: &mut Dice,
     who: Who,

@@ -83,10 +83,10 @@ abbrev ending : Ending
 ending = record { width = 1; steps = 9 }
 
 -- the carried run: Y flips the signs of Z's and X's rotations; behind the quarter turn it is -XX, and flips both branches
-abbrev carried : List ℕ
+abbrev pub carried : List ℕ
 carried = steps 1 1 0 1 0
 
-abbrev end : Pauli
+abbrev pub end : Pauli
 end = record { n = 1; k = 1; x = 0; z = 0 }
 
 -- ---- the hypotheses
@@ -100,10 +100,10 @@ pub outcome : carrying service run Y output ≡ record { answer = accepted end; 
 unfolding carrying onRun carryingRow placedRow carriedRun runOf begun startWidth mapped walk follow ended readAt readField judged judgedBy unless decoded fieldAt isWhole bodyLength number floatAt pauliAt fits hermitian coefficient ys flagged flagAt fieldSize carriedSteps carriedStep passed flipped anti product deciding meets absorbed widened turnedBy turnedPast endPauli raised dropped dropBit widthAfter stepRow rotationStepRow promotionStepRow projectionStepRow rotationKernelRow measurementRow hermitianRow widthRow unitRow promotedWidthRow pivotRow pivotMask inUnit row first answered left le neg ofBits digit overlap parity ones onesIn
 outcome = refl
 
-carries : carrying service run Y output .answer ≡ accepted end
+pub carries : carrying service run Y output .answer ≡ accepted end
 carries = ap (λ (o : Outcome Pauli (List ℕ)). o .answer) outcome
 
-sent-is : sent service run Y output ≡ carried
+pub sent-is : sent service run Y output ≡ carried
 sent-is = ap (λ (o : Outcome Pauli (List ℕ)). take (length run) (o .lent)) outcome
 
 pub runs-here : running service run here .answer ≡ accepted ending
@@ -126,7 +126,7 @@ agreeing = record { at = at }
 -- ---- the premise on amplitudes
 
 -- the carried run's steps
-abbrev carriedList : List (Step Float)
+abbrev pub carriedList : List (Step Float)
 carriedList =
     rotation (record { n = 1; k = 0; x = 0; z = 1 }) 1 bytes.zero one
     ∷ rotation (record { n = 1; k = 0; x = 1; z = 0 }) 1 bytes.zero one
@@ -139,7 +139,7 @@ carriedList =
     ∷ correction (record { n = 1; k = 0; x = 1; z = 0 })
     ∷ []
 
-reads : runOf service carried ≡ accepted (record { width = 1; steps = carriedList })
+pub reads : runOf service carried ≡ accepted (record { width = 1; steps = carriedList })
 unfolding runOf begun startWidth mapped walk follow ended readAt readField judged judgedBy unless decoded fieldAt isWhole bodyLength number floatAt pauliAt fits hermitian coefficient ys widthAfter stepRow rotationStepRow promotionStepRow projectionStepRow rotationKernelRow measurementRow hermitianRow widthRow unitRow promotedWidthRow pivotRow pivotMask inUnit row first answered left le neg ofBits digit overlap parity ones onesIn
 reads = refl
 

@@ -6,4 +6,5 @@ pub mod Emulator
 pub mod TwoCorrections
 pub mod StartForEnd
 pub mod WithoutCorrections
+pub mod TwoListings
 pub mod Seven

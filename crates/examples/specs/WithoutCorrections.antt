@@ -53,7 +53,8 @@ use Rattle.runlaws.specs.NumberBytes.{bytesOf}
 use Rattle.runlaws.specs.PauliBytes.{pauliBytes, correctionField}
 use Rattle.runlaws.specs.Reading.{decoded, unless, judgedBy, judged, readField, readAt}
 use Rattle.runlaws.specs.Run.{Run, mapped, ended, follow, walk, startWidth, begun, runOf}
-use Rattle.runlaws.specs.WithoutCorrections.{behindStart, Accepted, Shorter, Folded}
+use Rattle.runlaws.specs.WithCorrection.{behindStart}
+use Rattle.runlaws.specs.WithoutCorrections.{Accepted, Shorter, Folded}
 use Rattle.examples.specs.Emulator.{met as shared}
 use Rattle.examples.specs.Instance as Instance
 use Rattle.examples.specs.Instance.{here, there, agreeing, none, single, double}

@@ -7,3 +7,4 @@ pub mod Fit
 pub mod Finite
 pub mod Rules
 pub mod Nan
+pub mod Zero

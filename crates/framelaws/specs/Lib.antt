@@ -39,3 +39,4 @@ pub mod Folding
 pub mod Folded
 pub mod FoldedSteps
 pub mod Acted
+pub mod Held

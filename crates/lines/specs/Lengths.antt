@@ -10,9 +10,9 @@ use lib.Ieee.{Float}
 use lib.ListN.{length, length-append}
 use borrow.Author.Tests.{ltb-false}
 use Rattle.io.specs.Digits.{glyph, digits}
-use Rattle.lines.specs.Lines.{decimalUpTo, decimal, bitsOf, part, widthLine, amplitudeLine, refusalLine}
+use Rattle.lines.specs.Lines.{decimalUpTo, decimal, listedBits, part, widthLine, amplitudeLine, refusalLine}
 
-digits-length : (b k n : ℕ) → length (digits b k n) ≡ k
+pub digits-length : (b k n : ℕ) → length (digits b k n) ≡ k
 digits-length b zero n = refl
 digits-length b (suc k) n =
     let front : length (digits b k (n / b)) ≡ k = digits-length b k (n / b) in
@@ -20,7 +20,7 @@ digits-length b (suc k) n =
 
 pub part-length : (x : Float) → length (part x) ≡ 17
 unfolding part
-part-length x = ap suc (digits-length 16 16 (bitsOf x))
+part-length x = ap suc (digits-length 16 16 (listedBits x))
 
 -- ---- a number in decimal: a number below 10^(k+1) has at most k + 1 digits
 

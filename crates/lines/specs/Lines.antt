@@ -4,7 +4,9 @@ use mathlib.Core.List.{List, [], _∷_, _++_}
 use Prim.Native.Nat.{ℕ, zero, suc, _/_, _%_}
 use lib.Dec.{ltb}
 use lib.Ieee.{Float, binary64, isNan, toBits}
-use Rattle.io.specs.Digits.{glyph, digits}
+use Rattle.floatlaws.specs.Same.{isZero}
+use Rattle.io.specs.Digits.{glyph}
+pub use Rattle.io.specs.Digits.{digits}
 
 -- the decimal digits of n, which is at most `most`: those of n / 10, where it is not 0, and then the last
 unfoldable pub decimalUpTo : ℕ → ℕ → List ℕ
@@ -18,9 +20,13 @@ decimal n = decimalUpTo n n
 unfoldable pub bitsOf : Float → ℕ
 bitsOf x = cond (isNan x) 0x7ff8000000000000 (toBits binary64 x)
 
+-- the bits that are listed: 0 for either zero (E6 of the change requests)
+unfoldable pub listedBits : Float → ℕ
+listedBits x = cond (isZero x) 0 (bitsOf x)
+
 -- a space and 16 hexadecimal digits
 unfoldable pub part : Float → List ℕ
-part x = 32 ∷ digits 16 16 (bitsOf x)
+part x = 32 ∷ digits 16 16 (listedBits x)
 
 -- `qubits ` and the width
 unfoldable pub widthLine : ℕ → List ℕ

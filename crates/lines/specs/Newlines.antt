@@ -8,7 +8,7 @@ use lib.Dec.{eqb, ltb}
 use lib.Ieee.{Float}
 use borrow.Author.Tests.{ne-eqb}
 use Rattle.io.specs.Digits.{glyph, digits}
-use Rattle.lines.specs.Lines.{decimalUpTo, decimal, bitsOf, part, widthLine, amplitudeLine, refusalLine}
+use Rattle.lines.specs.Lines.{decimalUpTo, decimal, listedBits, part, widthLine, amplitudeLine, refusalLine}
 
 -- the newlines of a text
 unfoldable pub lineCount : List ℕ → ℕ
@@ -64,7 +64,7 @@ number-one n = ended (decimalUpTo n n) (up-to-none n n)
 
 part-none : (x : Float) → lineCount (part x) ≡ 0
 unfolding part
-part-none x = other 32 (λ e. omega arith) (digits 16 16 (bitsOf x)) ∙ digits-none 16 16 (bitsOf x)
+part-none x = other 32 (λ e. omega arith) (digits 16 16 (listedBits x)) ∙ digits-none 16 16 (listedBits x)
 
 pub width-one : (n : ℕ) → lineCount (widthLine n) ≡ 1
 unfolding widthLine lineCount

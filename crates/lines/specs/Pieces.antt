@@ -6,7 +6,7 @@ use native.Mathlib.Nat.{zero-add}
 use native.Mathlib.Omega.{arith}
 use borrow.Author.Tests.{lt-ltb, le-ltb}
 use lib.ListN.{length, take, drop, set, length-drop, drop-of-length-le}
-use lib.Seq.{sets, sets-eq, take-all, take-length, length-take-le, drop-drop}
+use lib.Seq.{sets, sets-eq, take-all, take-length, length-take-le, drop-drop, take-at, drop-at}
 use Rattle.answers.specs.Answer.{Answer, refuse}
 use Rattle.answers.specs.Answer.Answer.{accepted, refused}
 use Rattle.answers.specs.Row.{refused-accepted, accepted-same}
@@ -14,6 +14,12 @@ use Rattle.paulitext.specs.Calls.{bufferAfter, textAnswerOf}
 use Rattle.paulitext.specs.declared.TextAnswer.{TextAnswer}
 use Rattle.paulitext.specs.declared.TextAnswer.the-variants as text
 use Rattle.lines.specs.Calls.{Lined, lineCall}
+
+-- equal texts in two parts, the first of one length: both parts are equal
+pub parts-same : {s t u v : List ℕ} → length s ≡ length u → s ++ t ≡ u ++ v → (s ≡ u) × (t ≡ v)
+parts-same {s} {t} {u} {v} e h =
+    let n : ℕ = length u in
+    (sym (take-at s t n e) ∙ ap (take n) h ∙ take-at u v n refl, sym (drop-at s t n e) ∙ ap (drop n) h ∙ drop-at u v n refl)
 
 -- t stored behind s, where s ends at `end`
 sets-sets : (out : List ℕ) (at end : ℕ) (s t : List ℕ) → end ≡ at + length s → sets (sets out at s) end t ≡ sets out at (s ++ t)

@@ -7,7 +7,7 @@ ghost use Prim.Native.Nat.{_+_, _≤_};
 ghost use lib.ListN.{length};
 ghost use lib.Seq.{sets};
 ghost use Rattle.lines.specs.Calls.{Lined};
-ghost use Rattle.lines.specs.Lines.{decimal, bitsOf, widthLine, amplitudeLine, refusalLine};
+ghost use Rattle.lines.specs.Lines.{decimal, bitsOf, listedBits, widthLine, amplitudeLine, refusalLine};
 ghost use Rattle.lines.specs.Lines.{part as Lines·part};
 
 // The bits of a float, every NaN having the same.
@@ -70,14 +70,24 @@ fn line(label: &[u8], n: u64, tail: &[u8], out: &mut [u8]) -> TextAnswer
     TextAnswer::Length(len)
 }
 
-// Puts a space and the 16 hexadecimal digits of a float's bits at `at`, and answers where they end.
+// The bits that are listed: 0 for either zero. Amplitudes in memory keep theirs.
+fn listed_bits(x: f64) -> u64
+    ensures { λ r. ⌜ r ≡ listedBits x ⌝ }
+{
+    if x == 0.0 {
+        return 0;
+    }
+    bits(x)
+}
+
+// Puts a space and the 16 hexadecimal digits of a float's listed bits at `at`, and answers where they end.
 fn part(x: f64, at: usize, out: &mut [u8]) -> usize
     requires { ⌜ at + 17 ≤ length (now out) ⌝ }
     ensures { λ r. ⌜ r ≡ at + 17 ⌝ }
     ensures { λ _. ⌜ now (out .exit) ≡ sets (now (out .entry)) at (Lines·part x) ⌝ }
 {
     let mut digits = [0u8; 16];
-    let count = io::hex(bits(x), 16, &mut digits);
+    let count = io::hex(listed_bits(x), 16, &mut digits);
     let first = put(b" ", at, out);
     put(&digits[..count], first, out)
 }

@@ -19,7 +19,7 @@ lines-count S (suc d) =
     let line : List ℕ = amplitudeLine d (point S d .re) (point S d .im) in
     count-append (amplitudeLines S d) line ∙ omega (arith, lines-count S d, amplitude-one d (point S d .re) (point S d .im))
 
-state-count : (n : ℕ) (S : State) → lineCount (stateText n S) ≡ 1 + 2 ^ n
+pub state-count : (n : ℕ) (S : State) → lineCount (stateText n S) ≡ 1 + 2 ^ n
 unfolding stateText
 state-count n S = count-append (widthLine n) (amplitudeLines S (2 ^ n)) ∙ omega (arith, width-one n, lines-count S (2 ^ n))
 

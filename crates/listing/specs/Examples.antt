@@ -26,7 +26,7 @@ use Rattle.runlaws.specs.Calls.{onRun, surveyOf, memoryRow, running}
 use Rattle.runlaws.specs.Field.{bodyLength, isWhole, fieldAt}
 use Rattle.runlaws.specs.Reading.{decoded, unless, judgedBy, judged, readField, readAt}
 use Rattle.runlaws.specs.Run.{mapped, ended, follow, walk, startWidth, begun, runOf}
-use Rattle.lines.specs.Lines.{decimalUpTo, decimal, bitsOf, part, widthLine, amplitudeLine, refusalLine}
+use Rattle.lines.specs.Lines.{decimalUpTo, decimal, bitsOf, listedBits, part, widthLine, amplitudeLine, refusalLine}
 use Rattle.listing.specs.Listing.{fresh, amplitudeLines, stateText, textOf, listed}
 
 -- the scope's example: one qubit, and a correction X
@@ -43,7 +43,7 @@ flipText =
     ∷ 49 ∷ 32 ∷ 51 ∷ 102 ∷ 102 ∷ 48 ∷ 48 ∷ 48 ∷ 48 ∷ 48 ∷ 48 ∷ 48 ∷ 48 ∷ 48 ∷ 48 ∷ 48 ∷ 48 ∷ 48 ∷ 32 ∷ 48 ∷ 48 ∷ 48 ∷ 48 ∷ 48 ∷ 48 ∷ 48 ∷ 48 ∷ 48 ∷ 48 ∷ 48 ∷ 48 ∷ 48 ∷ 48 ∷ 48 ∷ 48 ∷ 10 ∷ []
 
 flip-listed : listed flip ≡ flipText
-unfolding listed textOf stateText amplitudeLines fresh point widthLine amplitudeLine refusalLine part bitsOf decimal decimalUpTo running onRun memoryRow surveyOf survey surveyFrom surveyed mixedAmplitudes roomFor room roomRow runOf begun startWidth mapped walk follow ended readAt readField judged judgedBy unless decoded fieldAt isWhole bodyLength number floatAt pauliAt fits hermitian coefficient ys widthAfter stepRow rotationStepRow promotionStepRow projectionStepRow rotationKernelRow measurementRow hermitianRow widthRow unitRow promotedWidthRow pivotRow pivotMask inUnit row first answered left le neg ofBits digit overlap parity ones onesIn ran stepped written over leaves.correction corrected timesPower toBits isNan
+unfolding listed textOf stateText amplitudeLines fresh point widthLine amplitudeLine refusalLine part listedBits bitsOf decimal decimalUpTo running onRun memoryRow surveyOf survey surveyFrom surveyed mixedAmplitudes roomFor room roomRow runOf begun startWidth mapped walk follow ended readAt readField judged judgedBy unless decoded fieldAt isWhole bodyLength number floatAt pauliAt fits hermitian coefficient ys widthAfter stepRow rotationStepRow promotionStepRow projectionStepRow rotationKernelRow measurementRow hermitianRow widthRow unitRow promotedWidthRow pivotRow pivotMask inUnit row first answered left le neg ofBits digit overlap parity ones onesIn ran stepped written over leaves.correction corrected timesPower toBits isNan
 flip-listed = refl
 
 -- two qubits, a rotation by XX with c and s both 1/sqrt 2, and a correction Z on qubit 0
@@ -60,20 +60,33 @@ bell =
 
 -- qubits 2
 -- 0 3fe6a09e667f3bcd 0000000000000000
--- 1 8000000000000000 8000000000000000
+-- 1 0000000000000000 0000000000000000
 -- 2 0000000000000000 0000000000000000
--- 3 8000000000000000 3fe6a09e667f3bcd
+-- 3 0000000000000000 3fe6a09e667f3bcd
 abbrev bellText : List ℕ
 bellText =
     113 ∷ 117 ∷ 98 ∷ 105 ∷ 116 ∷ 115 ∷ 32 ∷ 50 ∷ 10
     ∷ 48 ∷ 32 ∷ 51 ∷ 102 ∷ 101 ∷ 54 ∷ 97 ∷ 48 ∷ 57 ∷ 101 ∷ 54 ∷ 54 ∷ 55 ∷ 102 ∷ 51 ∷ 98 ∷ 99 ∷ 100 ∷ 32 ∷ 48 ∷ 48 ∷ 48 ∷ 48 ∷ 48 ∷ 48 ∷ 48 ∷ 48 ∷ 48 ∷ 48 ∷ 48 ∷ 48 ∷ 48 ∷ 48 ∷ 48 ∷ 48 ∷ 10
-    ∷ 49 ∷ 32 ∷ 56 ∷ 48 ∷ 48 ∷ 48 ∷ 48 ∷ 48 ∷ 48 ∷ 48 ∷ 48 ∷ 48 ∷ 48 ∷ 48 ∷ 48 ∷ 48 ∷ 48 ∷ 48 ∷ 32 ∷ 56 ∷ 48 ∷ 48 ∷ 48 ∷ 48 ∷ 48 ∷ 48 ∷ 48 ∷ 48 ∷ 48 ∷ 48 ∷ 48 ∷ 48 ∷ 48 ∷ 48 ∷ 48 ∷ 10
+    ∷ 49 ∷ 32 ∷ 48 ∷ 48 ∷ 48 ∷ 48 ∷ 48 ∷ 48 ∷ 48 ∷ 48 ∷ 48 ∷ 48 ∷ 48 ∷ 48 ∷ 48 ∷ 48 ∷ 48 ∷ 48 ∷ 32 ∷ 48 ∷ 48 ∷ 48 ∷ 48 ∷ 48 ∷ 48 ∷ 48 ∷ 48 ∷ 48 ∷ 48 ∷ 48 ∷ 48 ∷ 48 ∷ 48 ∷ 48 ∷ 48 ∷ 10
     ∷ 50 ∷ 32 ∷ 48 ∷ 48 ∷ 48 ∷ 48 ∷ 48 ∷ 48 ∷ 48 ∷ 48 ∷ 48 ∷ 48 ∷ 48 ∷ 48 ∷ 48 ∷ 48 ∷ 48 ∷ 48 ∷ 32 ∷ 48 ∷ 48 ∷ 48 ∷ 48 ∷ 48 ∷ 48 ∷ 48 ∷ 48 ∷ 48 ∷ 48 ∷ 48 ∷ 48 ∷ 48 ∷ 48 ∷ 48 ∷ 48 ∷ 10
-    ∷ 51 ∷ 32 ∷ 56 ∷ 48 ∷ 48 ∷ 48 ∷ 48 ∷ 48 ∷ 48 ∷ 48 ∷ 48 ∷ 48 ∷ 48 ∷ 48 ∷ 48 ∷ 48 ∷ 48 ∷ 48 ∷ 32 ∷ 51 ∷ 102 ∷ 101 ∷ 54 ∷ 97 ∷ 48 ∷ 57 ∷ 101 ∷ 54 ∷ 54 ∷ 55 ∷ 102 ∷ 51 ∷ 98 ∷ 99 ∷ 100 ∷ 10 ∷ []
+    ∷ 51 ∷ 32 ∷ 48 ∷ 48 ∷ 48 ∷ 48 ∷ 48 ∷ 48 ∷ 48 ∷ 48 ∷ 48 ∷ 48 ∷ 48 ∷ 48 ∷ 48 ∷ 48 ∷ 48 ∷ 48 ∷ 32 ∷ 51 ∷ 102 ∷ 101 ∷ 54 ∷ 97 ∷ 48 ∷ 57 ∷ 101 ∷ 54 ∷ 54 ∷ 55 ∷ 102 ∷ 51 ∷ 98 ∷ 99 ∷ 100 ∷ 10 ∷ []
 
 bell-listed : listed bell ≡ bellText
-unfolding listed textOf stateText amplitudeLines fresh point widthLine amplitudeLine refusalLine part bitsOf decimal decimalUpTo running onRun memoryRow surveyOf survey surveyFrom surveyed mixedAmplitudes roomFor room roomRow runOf begun startWidth mapped walk follow ended readAt readField judged judgedBy unless decoded fieldAt isWhole bodyLength number floatAt pauliAt fits hermitian coefficient ys widthAfter stepRow rotationStepRow promotionStepRow projectionStepRow rotationKernelRow measurementRow hermitianRow widthRow unitRow promotedWidthRow pivotRow pivotMask inUnit row first answered left le neg ofBits digit overlap parity ones onesIn ran stepped written over leaves.rotation leaves.correction corrected rotated rotatedBy rotatedAlone rotatedWith rotationCoefficient power times timesPower direction negated scaled add sub mul toBits isNan
+unfolding listed textOf stateText amplitudeLines fresh point widthLine amplitudeLine refusalLine part listedBits bitsOf decimal decimalUpTo running onRun memoryRow surveyOf survey surveyFrom surveyed mixedAmplitudes roomFor room roomRow runOf begun startWidth mapped walk follow ended readAt readField judged judgedBy unless decoded fieldAt isWhole bodyLength number floatAt pauliAt fits hermitian coefficient ys widthAfter stepRow rotationStepRow promotionStepRow projectionStepRow rotationKernelRow measurementRow hermitianRow widthRow unitRow promotedWidthRow pivotRow pivotMask inUnit row first answered left le neg ofBits digit overlap parity ones onesIn ran stepped written over leaves.rotation leaves.correction corrected rotated rotatedBy rotatedAlone rotatedWith rotationCoefficient power times timesPower direction negated scaled add sub mul toBits isNan
 bell-listed = refl
+
+-- Z right behind the start, and sign 1: carrying Z through the rotation leaves the run above, and the same text
+abbrev bellBefore : List ℕ
+bellBefore =
+    1 ∷ 1 ∷ 0 ∷ 2
+    ∷ 5 ∷ 17 ∷ 0 ∷ (replicate 9 0
+    ++ 1 ∷ (replicate 7 0
+    ++ 2 ∷ 34 ∷ 0 ∷ 0 ∷ 3 ∷ (replicate 15 0 ++ 1 ∷ (h ++ (h
+    ++ 6 ∷ 0 ∷ 0 ∷ [])))))
+
+bell-before-listed : listed bellBefore ≡ bellText
+unfolding listed textOf stateText amplitudeLines fresh point widthLine amplitudeLine refusalLine part listedBits bitsOf decimal decimalUpTo running onRun memoryRow surveyOf survey surveyFrom surveyed mixedAmplitudes roomFor room roomRow runOf begun startWidth mapped walk follow ended readAt readField judged judgedBy unless decoded fieldAt isWhole bodyLength number floatAt pauliAt fits hermitian coefficient ys widthAfter stepRow rotationStepRow promotionStepRow projectionStepRow rotationKernelRow measurementRow hermitianRow widthRow unitRow promotedWidthRow pivotRow pivotMask inUnit row first answered left le neg ofBits digit overlap parity ones onesIn ran stepped written over leaves.rotation leaves.correction corrected rotated rotatedBy rotatedAlone rotatedWith rotationCoefficient power times timesPower direction negated scaled add sub mul toBits isNan
+bell-before-listed = refl
 
 -- a quarter turn of XX in the rotation's place
 abbrev bellTurned : List ℕ
@@ -85,7 +98,7 @@ bellTurned =
     ++ 6 ∷ 0 ∷ 0 ∷ [])))
 
 bell-turned-listed : listed bellTurned ≡ bellText
-unfolding listed textOf stateText amplitudeLines fresh point widthLine amplitudeLine refusalLine part bitsOf decimal decimalUpTo running onRun memoryRow surveyOf survey surveyFrom surveyed mixedAmplitudes roomFor room roomRow runOf begun startWidth mapped walk follow ended readAt readField judged judgedBy unless decoded fieldAt isWhole bodyLength number floatAt pauliAt fits hermitian coefficient ys widthAfter stepRow rotationStepRow promotionStepRow projectionStepRow rotationKernelRow measurementRow hermitianRow widthRow unitRow promotedWidthRow pivotRow pivotMask inUnit row first answered left le neg ofBits digit overlap parity ones onesIn ran stepped written over leaves.rotation leaves.correction corrected rotated rotatedBy rotatedAlone rotatedWith rotationCoefficient power times timesPower direction negated scaled add sub mul toBits isNan
+unfolding listed textOf stateText amplitudeLines fresh point widthLine amplitudeLine refusalLine part listedBits bitsOf decimal decimalUpTo running onRun memoryRow surveyOf survey surveyFrom surveyed mixedAmplitudes roomFor room roomRow runOf begun startWidth mapped walk follow ended readAt readField judged judgedBy unless decoded fieldAt isWhole bodyLength number floatAt pauliAt fits hermitian coefficient ys widthAfter stepRow rotationStepRow promotionStepRow projectionStepRow rotationKernelRow measurementRow hermitianRow widthRow unitRow promotedWidthRow pivotRow pivotMask inUnit row first answered left le neg ofBits digit overlap parity ones onesIn ran stepped written over leaves.rotation leaves.correction corrected rotated rotatedBy rotatedAlone rotatedWith rotationCoefficient power times timesPower direction negated scaled add sub mul toBits isNan
 bell-turned-listed = refl
 
 -- no bytes: refused 14

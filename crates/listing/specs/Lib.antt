@@ -4,4 +4,7 @@ pub mod Laws
 pub mod Room
 pub mod Most
 pub mod Counted
+pub mod SameText
+pub mod TwoListings
+pub mod Matching
 pub mod Examples

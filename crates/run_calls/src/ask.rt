@@ -1,6 +1,7 @@
 // The calls, by what they are lent.
 use crate::both;
 use crate::fold;
+use crate::listed;
 use crate::merge;
 use crate::seek;
 use crate::write;
@@ -34,6 +35,7 @@ pub(crate) fn call(call: u8, run: &[u8], words: [u64; 12], rest: &[u8]) {
             who(call),
         ),
         b'r' | b'R' => seek::sought(run, read::first_pauli(words), who(call)),
+        b'w' => listed::both(run, read::first_pauli(words)),
         b'g' => past(run, words, rest),
         _ => with_re(call, run, words, rest),
     }

@@ -1,10 +1,11 @@
-// Calls of fields, reader, checker, runner, passing, carrier, seeker, folder and correction in text: each line asks one,
-// and its whole answer is written as a line, with every lent buffer as it is after the call. A line is the call's name, a
-// run (text::run), numbers and buffers (kernel_calls::read). The calls are listed in text::arity; `#` is a
+// Calls of fields, reader, checker, runner, passing, carrier, seeker, folder, correction and listing in text: each line
+// asks one, and its whole answer is written as a line, with every lent buffer as it is after the call. A line is the
+// call's name, a run (text::run), numbers and buffers (kernel_calls::read). The calls are listed in text::arity; `#` is a
 // comment.
 mod ask;
 mod both;
 mod fold;
+mod listed;
 mod merge;
 mod seek;
 mod text;

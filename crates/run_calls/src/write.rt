@@ -268,6 +268,10 @@ fn folded_run(bytes: &[u8]) {
         hex(bytes);
         return;
     }
+    summed(bytes);
+}
+
+pub(crate) fn summed(bytes: &[u8]) {
     show::byte(b' ');
     io::print_hex(STDOUT_FILENO, digest(bytes), 16);
 }

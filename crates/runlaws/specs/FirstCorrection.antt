@@ -29,12 +29,12 @@ use Rattle.runlaws.specs.Flags.{fieldSize, flagAt, flagged}
 use Rattle.runlaws.specs.Flagged.{flag-length, carried-size}
 use Rattle.runlaws.specs.FoldedBytes.{behind-piece, piece-long}
 use Rattle.runlaws.specs.FoldedRun.{keptOf, leftBytes, foldedFields, foldedRun}
-use Rattle.runlaws.specs.PauliBytes.{correctionField, correction-piece}
-use Rattle.runlaws.specs.Pieces.{Piece, Pieces, piece-size}
+use Rattle.runlaws.specs.PauliBytes.{correctionField, field-length, correction-piece}
+use Rattle.runlaws.specs.Pieces.{Piece, Pieces}
 use Rattle.runlaws.specs.Run.{Run, runOf}
 use Rattle.runlaws.specs.RunPieces.{startBytes, RunPieces, run-pieces, pieces-run}
 use Rattle.runlaws.specs.WholeRun.{run-allowed}
-use Rattle.runlaws.specs.WithoutCorrections.{behindStart}
+use Rattle.runlaws.specs.WithCorrection.{behindStart}
 
 -- ---- without corrections the fields that are left are the carried run's
 
@@ -82,7 +82,7 @@ times-identity Q fits =
     same refl (rw (overlap-zero-r (Q .z)) (ap (λ (k : ℕ). k % 4) (omega arith) ∙ mod-eq-of-lt (omega (arith, fits .phase)))) (xor-zero-r (Q .x)) (xor-zero-r (Q .z))
 
 -- no row refuses the correction
-correction-allowed : (caller : Caller) (n : ℕ) (Q : Pauli) → Admitted Q → Q .n ≤ widestKernel → stepRow caller n (correction Q) ≡ 0
+pub correction-allowed : (caller : Caller) (n : ℕ) (Q : Pauli) → Admitted Q → Q .n ≤ widestKernel → stepRow caller n (correction Q) ≡ 0
 unfolding stepRow widthRow row first
 correction-allowed caller n Q a h = rw (admitted-fits Q a, le-ltb widestKernel (Q .n) h)
 
@@ -107,14 +107,10 @@ module _ (caller : Caller) (narrow : caller .widest ≤ widestKernel) (s : List 
       let within = run-allowed caller s R reads .width in
       correction-piece caller (R .width) Q width within (correction-allowed caller (R .width) Q admitted (omega (arith, width, within, narrow)))
 
-  twenty : length (correctionField Q) ≡ 20
-  unfolding fieldSize
-  twenty = piece-size first-piece
-
   pub begun-read : length s + 20 ≤ mostBytes → runOf caller (behindStart Q s) ≡ accepted begun
   unfolding widthAfter
   begun-read short = pieces-run caller (behindStart Q s) begun (record {
-    short = omega (arith, ap length whole, length-append (correctionField Q) (parts .bytes), twenty, ap length (parts .whole), short);
+    short = omega (arith, ap length whole, length-append (correctionField Q) (parts .bytes), field-length Q, ap length (parts .whole), short);
     bytes = correctionField Q ++ parts .bytes;
     whole = whole;
     pieces = record { first = correctionField Q; rest = parts .bytes; both = refl; this = first-piece; that = parts .pieces };
@@ -128,7 +124,7 @@ module _ (caller : Caller) (narrow : caller .widest ≤ widestKernel) (s : List 
     unfolding foldedRun foldedFields leftBytes keptOf fires fieldSize carriedRun
     begun-folded =
         ap (λ (l : List ℕ). take 4 l ++ foldedFields (identity (R .width)) (correction Q ∷ R .steps) (drop 4 l)) whole
-        ∙ ap₂ (λ (P : Pauli) (l : List ℕ). start ++ foldedFields P (R .steps) l) past (drop-at (correctionField Q) (parts .bytes) 20 twenty)
+        ∙ ap₂ (λ (P : Pauli) (l : List ℕ). start ++ foldedFields P (R .steps) l) past (drop-at (correctionField Q) (parts .bytes) 20 (field-length Q))
         ∙ sym (bare-flagged caller (R .steps) (R .width) Q start (parts .bytes) (parts .pieces) bare)
         ∙ ap (flagged 4 (carriedSteps Q (R .steps))) (sym (parts .whole))
 

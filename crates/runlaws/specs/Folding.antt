@@ -43,7 +43,8 @@ use Rattle.runlaws.specs.RunPieces.{startBytes, run-pieces}
 use Rattle.runlaws.specs.Sent.{sent-accepted}
 use Rattle.runlaws.specs.Theorem.{may-fire, fired-done}
 use Rattle.runlaws.specs.WholeRun.{run-allowed}
-use Rattle.runlaws.specs.WithoutCorrections.{behindStart, Accepted, Shorter, Folded, WithoutCorrections}
+use Rattle.runlaws.specs.WithCorrection.{behindStart}
+use Rattle.runlaws.specs.WithoutCorrections.{Accepted, Shorter, Folded, WithoutCorrections}
 
 -- ---- of a run that reads as R
 

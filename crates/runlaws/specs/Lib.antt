@@ -29,8 +29,10 @@ pub mod Sent
 pub mod Theorem
 pub mod FoldedBytes
 pub mod ClosedUp
+pub mod WithCorrection
 pub mod WithoutCorrections
 pub mod FirstCorrection
+pub mod LastCorrection
 pub mod Folding
 pub mod TwoCorrections
 pub mod OneCarry

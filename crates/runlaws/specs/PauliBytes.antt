@@ -69,6 +69,10 @@ pauli-same P Q f g narrow width e =
 unfoldable pub correctionField : Pauli → List ℕ
 correctionField P = 5 ∷ 17 ∷ 0 ∷ pauliBytes P
 
+pub field-length : (P : Pauli) → length (correctionField P) ≡ 20
+unfolding correctionField
+field-length P = omega (arith, pauli-length P)
+
 correction-field : (P : Pauli) → fieldAt (correctionField P) 0 ≡ some (record { tag = 5; body = pauliBytes P; next = 20 })
 unfolding correctionField fieldAt isWhole bodyLength
 correction-field P =
@@ -83,7 +87,7 @@ correction-piece caller n P width within e =
     let known = width-passed widestKernel P e in
     let c : Cursor = record { at = 0; width = n } in
     let f : Field = record { tag = 5; body = pauliBytes P; next = 20 } in
-    let size : length (correctionField P) ≡ 20 = unfold correctionField in omega (arith, pauli-length P) in
+    let size = field-length P in
     let back : pauliAt n (pauliBytes P) ≡ P
     = ap₂ pauliAt (sym width) (sym (append-nil (pauliBytes P))) ∙ pauli-read P [] (known .0) (omega (arith, known .1)) in
     let is : Decodes n f (correction P) = subst (λ (Q : Pauli). Decodes n f (correction Q)) back (corrects refl (pauli-length P)) in

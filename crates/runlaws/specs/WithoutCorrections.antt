@@ -22,14 +22,8 @@ use Rattle.runlaws.specs.Field.{mostBytes, fieldAt}
 use Rattle.runlaws.specs.Flags.{FlagIn}
 use Rattle.runlaws.specs.FoldedRun.{keptRun}
 use Rattle.runlaws.specs.Frame.{SameNumbers, Agreeing, FiniteRun, fired, sent}
-use Rattle.runlaws.specs.PauliBytes.{correctionField}
 use Rattle.runlaws.specs.Run.{Run, runOf, startWidth}
-
--- ---- a word
-
--- the run with a correction of Q right behind its start field
-unfoldable pub behindStart : Pauli → List ℕ → List ℕ
-behindStart Q s = take 4 s ++ (correctionField Q ++ drop 4 s)
+use Rattle.runlaws.specs.WithCorrection.{behindStart}
 
 -- ---- accepted
 

@@ -1,6 +1,7 @@
 //! frames [RUNS] [SEED] [heap]: demand 3 on random runs and on all single steps of few qubits, by the service's calls and,
-//! where the emulator takes the run, by its calls too; that the two callers leave the same state and carry alike; and, by each
-//! caller that takes the run, E11 with a second Pauli, E12 with ends that are named, and E2 with corrections put in.
+//! where the emulator takes the run, by its calls too; that the two callers leave the same state and carry alike; by each
+//! caller that takes the run, E11 with a second Pauli, E12 with ends that are named, and E2 with corrections put in; and, by the
+//! service's, E6: the listings of the run with the Pauli and of the carried run with its end.
 //!
 //! Run i throws the dice of SEED + i. Ends with 1 if anything is wrong, or if something that the program is
 //! meant to see was never seen.
@@ -15,12 +16,13 @@ use checks::tally::{Findings, Tallies, Tally, unseen};
 use checks::totals::Amplitudes;
 use checks::trials::{random_trial, single_step_trials, single_steps};
 use checks::two_callers::{self, Agreement};
+use checks::two_files::{self, Pair};
 use checks::two_ways::{Outcome, Trial, compare};
 use checks::{draw, merging, passed};
 use model::carry::carry_step;
 use model::dice::Dice;
 use model::pauli::paulis;
-use model::run::{Caller, EMULATOR, LIMIT, Run};
+use model::run::{Caller, EMULATOR, LIMIT, LONGEST, Run};
 use model::seek::Ends;
 use std::process::ExitCode;
 
@@ -79,6 +81,13 @@ struct Folds {
     wrong: Findings,
 }
 
+/// Of the two files of a carried run, which the service lists.
+#[derive(Default)]
+struct Files {
+    seen: Tally,
+    wrong: Findings,
+}
+
 #[derive(Default)]
 struct All {
     service: Seen,
@@ -87,6 +96,7 @@ struct All {
     merges: Merges,
     seeks: Seeks,
     folds: Folds,
+    files: Files,
 }
 
 impl Seen {
@@ -303,6 +313,41 @@ impl Folds {
     }
 }
 
+impl Files {
+    /// With dice of its own: the other checks draw what they would draw without it. Texts take long to write, so half of the many
+    /// runs that stay on few qubits are left out.
+    fn try_one(&mut self, lender: &Lender, dice: &Dice, seed: u64, trial: &Trial) {
+        let mut dice = Dice(dice.0.reverse_bits());
+        if trial.run.survey().greatest < 10 && dice.flip() {
+            return;
+        }
+        let pair = Pair::draw(&mut dice, trial);
+        self.list(lender, &mut dice, seed, &pair);
+    }
+
+    fn list(&mut self, lender: &Lender, dice: &mut Dice, seed: u64, pair: &Pair) {
+        match two_files::compare(lender, dice, pair) {
+            Ok(listed) => two_files::count(&mut self.seen, pair, &listed),
+            Err(what) => {
+                let what = format!("{what}; {}", pair.description());
+                self.wrong.note(seed, &what);
+            }
+        }
+    }
+
+    fn print(&self) {
+        println!("two files of a carried run listed, by the service's calls");
+        for name in passed::STEPS.into_iter().chain(two_files::WANTED) {
+            println!("  {name:46} {:>9}", self.seen.count(name));
+        }
+    }
+
+    fn missing(&self) -> Vec<&'static str> {
+        let steps = self.seen.missing(&passed::STEPS);
+        [steps, self.seen.missing(&two_files::WANTED)].concat()
+    }
+}
+
 /// Whether a run, which the service takes, is narrow enough for the caller.
 fn takes(who: Who, run: &Run) -> bool {
     run.survey().greatest <= who.caller().widest
@@ -334,11 +379,13 @@ impl All {
         self.merges.print();
         self.seeks.print();
         self.folds.print();
+        self.files.print();
     }
 
     fn wrong(&self) -> u64 {
         let callers = self.service.wrong.0 + self.emulator.wrong.0 + self.both.wrong.0;
-        callers + self.merges.wrong.0 + self.seeks.wrong.0 + self.folds.wrong.0
+        let steps = self.merges.wrong.0 + self.seeks.wrong.0 + self.folds.wrong.0;
+        callers + steps + self.files.wrong.0
     }
 
     fn missing(&self) -> Vec<&'static str> {
@@ -346,8 +393,8 @@ impl All {
         let emulator = self.emulator.missing(Who::Emulator);
         let both = self.both.missing();
         let [merges, seeks] = [self.merges.missing(), self.seeks.missing()];
-        let folds = self.folds.missing();
-        [service, emulator, both, merges, seeks, folds].concat()
+        let [folds, files] = [self.folds.missing(), self.files.missing()];
+        [service, emulator, both, merges, seeks, folds, files].concat()
     }
 }
 
@@ -408,6 +455,35 @@ fn all_corrections_before_single_steps(seen: &mut Folds, lender: &Lender, seed: 
     count
 }
 
+/// Both files listed of every Pauli and every single step at widths 0 to 2.
+fn all_files_of_single_steps(seen: &mut Files, lender: &Lender, seed: u64) -> u64 {
+    let mut dice = Dice(seed);
+    let mut count = 0;
+    for width in 0..=2 {
+        for q in paulis(width) {
+            for step in single_steps(&mut dice, width) {
+                let steps = vec![step];
+                let run = Run { width, steps };
+                seen.list(lender, &mut dice, seed, &Pair { run, q });
+                count += 1;
+            }
+        }
+    }
+    count
+}
+
+/// Runs whose files have about 65,536 bytes.
+fn all_longest_files(seen: &mut Files, lender: &Lender, seed: u64) -> u64 {
+    let mut dice = Dice(seed);
+    let mut count = 0;
+    for length in LONGEST - 22..=LONGEST {
+        let pair = Pair::of_length(&mut dice, length);
+        seen.list(lender, &mut dice, seed, &pair);
+        count += 1;
+    }
+    count
+}
+
 fn main() -> ExitCode {
     let Arguments { count, seed, heap } = Arguments::read(RUNS, SEED);
     case::name_faults();
@@ -418,16 +494,19 @@ fn main() -> ExitCode {
     let single = all_single_steps(&mut seen, &lender, seed);
     let named = all_ends_of_single_steps(&mut seen.seeks, &lender, seed);
     let fired = all_corrections_before_single_steps(&mut seen.folds, &lender, seed);
+    let listed = all_files_of_single_steps(&mut seen.files, &lender, seed);
+    let longest = all_longest_files(&mut seen.files, &lender, seed);
     for seed in (0..count).map(|at| seed.wrapping_add(at)) {
         case::begin(seed);
         let mut dice = Dice(seed);
         let trial = random_trial(&mut dice);
         seen.try_one(&lender, &mut dice, seed, &trial);
+        seen.files.try_one(&lender, &dice, seed, &trial);
     }
 
     println!(
         "{count} random runs from seed {seed}, {single} runs of a single step, {named} of one with every end named, \
-         and {fired} folded of one behind a correction"
+         {fired} folded of one behind a correction, and both files listed of {listed} of one and of {longest} of about 65,536 bytes"
     );
     seen.print();
     let missing = seen.missing();

@@ -30,14 +30,13 @@ use Rattle.runlaws.specs.Calls.{Ending, endingOf, surveyOf, running, carrying}
 use Rattle.runlaws.specs.Field.{mostBytes}
 use Rattle.runlaws.specs.FirstCorrection.{begun-read}
 use Rattle.runlaws.specs.Frame.{SameNumbers, FiniteRun, Frame, fired, sent}
-use Rattle.runlaws.specs.LastCorrection.{put-length, ended-read, ran-last, width-last}
+use Rattle.runlaws.specs.LastCorrection.{ended-read, ran-last, width-last}
 use Rattle.runlaws.specs.Outcomes.{running-done, running-answers}
-use Rattle.runlaws.specs.PauliBytes.{correctionField, field-length}
 use Rattle.runlaws.specs.Run.{Run, runOf}
 use Rattle.runlaws.specs.Sent.{carriedOf, Sent, sent-accepted}
 use Rattle.runlaws.specs.Theorem.{fired-done, frame-at-the-service}
 use Rattle.runlaws.specs.WholeRun.{run-allowed, run-long}
-use Rattle.runlaws.specs.WithCorrection.{behindStart, beforeEnd}
+use Rattle.runlaws.specs.WithCorrection.{behindStart, beforeEnd, behind-length, before-length}
 use Rattle.listing.specs.Listing.{fresh, stateText, textOf, listed}
 use Rattle.listing.specs.Room.{fresh-room, listed-refusal}
 use Rattle.listing.specs.SameText.{state-same, state-tells}
@@ -84,10 +83,6 @@ module _ (s out : List ℕ) (Q end : Pauli) (carries : carrying service s Q out 
   abbrev t : List ℕ
   t = sent service s Q out
 
-  first-size : length (behindStart Q s) ≡ length s + 20
-  unfolding behindStart
-  first-size = omega (arith, put-length 4 (correctionField Q) s, field-length Q)
-
   module _ (R : Run) (known : Sent service s Q out R) where
     abbrev n : ℕ
     n = R .width
@@ -99,8 +94,7 @@ module _ (s out : List ℕ) (Q end : Pauli) (carries : carrying service s Q out 
     is-end = accepted-same (sym (known .ends) ∙ carries)
 
     last-size : length (beforeEnd end t) ≡ length s + 20
-    unfolding beforeEnd
-    last-size = omega (arith, put-length (length t - 3) (correctionField end) t, field-length end, known .size)
+    last-size = before-length end t ∙ ap (λ (k : ℕ). k + 20) (known .size)
 
     end-known : Admitted end × (end .n ≡ lastWidth n ts)
     end-known =
@@ -110,27 +104,27 @@ module _ (s out : List ℕ) (Q end : Pauli) (carries : carrying service s Q out 
         subst (λ (P : Pauli). Admitted P × (P .n ≡ lastWidth n ts)) is-end (record { fitting = final .fitting; width = most }, final .width)
 
     module _ (short : length s + 20 ≤ mostBytes) where
-      one-read : runOf service (behindStart Q s) ≡ accepted (record { width = n; steps = correction Q ∷ ts })
-      one-read = begun-read service narrow s R (known .read) Q (known .admitted) (known .width) short
+      first-read : runOf service (behindStart Q s) ≡ accepted (record { width = n; steps = correction Q ∷ ts })
+      first-read = begun-read service narrow s R (known .read) Q (known .admitted) (known .width) short
 
-      other-read : runOf service (beforeEnd end t) ≡ accepted (record { width = n; steps = carriedSteps Q ts ++ correction end ∷ [] })
-      other-read =
+      last-read : runOf service (beforeEnd end t) ≡ accepted (record { width = n; steps = carriedSteps Q ts ++ correction end ∷ [] })
+      last-read =
           ended-read service narrow end (end-known .0) t (carriedOf Q R) (known .again) (end-known .1 ∙ sym (last-carried Q n ts)) (rw (known .size) short)
 
       abbrev ending : Ending
       ending = record { width = lastWidth n ts; steps = suc (length ts) }
 
-      one-runs : (running service (behindStart Q s) fresh .answer ≡ accepted ending)
+      first-runs : (running service (behindStart Q s) fresh .answer ≡ accepted ending)
           × (running service (behindStart Q s) fresh .lent ≡ ran n ts (stepped n (correction Q) fresh))
       unfolding lastWidth widthAfter ran
-      one-runs = runs (behindStart Q s) (record { width = n; steps = correction Q ∷ ts }) one-read
+      first-runs = runs (behindStart Q s) (record { width = n; steps = correction Q ∷ ts }) first-read
 
-      other-runs : (running service (beforeEnd end t) fresh .answer ≡ accepted ending)
+      last-runs : (running service (beforeEnd end t) fresh .answer ≡ accepted ending)
           × (running service (beforeEnd end t) fresh .lent ≡ stepped (lastWidth n ts) (correction end) (ran n (carriedSteps Q ts) fresh))
       unfolding widthAfter
-      other-runs =
+      last-runs =
           let cs : List (Step Float) = carriedSteps Q ts in
-          let done = runs (beforeEnd end t) (record { width = n; steps = cs ++ correction end ∷ [] }) other-read in
+          let done = runs (beforeEnd end t) (record { width = n; steps = cs ++ correction end ∷ [] }) last-read in
           let width : lastWidth n (cs ++ correction end ∷ []) ≡ lastWidth n ts = width-last n cs (correction end) ∙ last-carried Q n ts in
           let count : length (cs ++ correction end ∷ []) ≡ suc (length ts) = omega (arith, length-append cs (correction end ∷ []), count-carried Q n ts) in
           let same : _≡_ {A = Ending} (record { width = lastWidth n (cs ++ correction end ∷ []); steps = length (cs ++ correction end ∷ []) }) ending
@@ -157,14 +151,14 @@ module _ (s out : List ℕ) (Q end : Pauli) (carries : carrying service s Q out 
       before =
           let done = running-done service s (fired Q fresh) _ (two-ways .plain) in
           let same : done .run ≡ R = accepted-same (sym (done .was) ∙ known .read) in
-          one-runs .1 ∙ ap (ran n ts) (sym (fired-done Q fresh (two-ways .before)))
+          first-runs .1 ∙ ap (ran n ts) (sym (fired-done Q fresh (two-ways .before)))
           ∙ sym (done .lent-is ∙ ap (λ (r : Run). ran (r .width) (r .steps) (fired Q fresh)) same)
 
       behind : running service (beforeEnd end t) fresh .lent ≡ fired end (running service t fresh .lent)
       unfolding stepped
       behind =
           let sends = runs t (carriedOf Q R) (known .again) .1 in
-          other-runs .1 ∙ ap (stepped (lastWidth n ts) (correction end)) (sym sends) ∙ sym (fired-done end (running service t fresh .lent) fires)
+          last-runs .1 ∙ ap (stepped (lastWidth n ts) (correction end)) (sym sends) ∙ sym (fired-done end (running service t fresh .lent) fires)
 
       same : FiniteRun service t fresh → listed (behindStart Q s) ≡ listed (beforeEnd end t)
       same finite =
@@ -172,21 +166,21 @@ module _ (s out : List ℕ) (Q end : Pauli) (carries : carrying service s Q out 
           let numbers : (b : ℕ) → b < 2 ^ lastWidth n ts
           → SameNumbers (point (running service (behindStart Q s) fresh .lent .state) b) (point (running service (beforeEnd end t) fresh .lent .state) b)
           = λ b h. rw (before, behind, ← is-frames) (two-ways .same finite b (rw width h)) in
-          listed-of (behindStart Q s) ending (one-runs .0) ∙ state-same _ _ (lastWidth n ts) numbers ∙ sym (listed-of (beforeEnd end t) ending (other-runs .0))
+          listed-of (behindStart Q s) ending (first-runs .0) ∙ state-same _ _ (lastWidth n ts) numbers ∙ sym (listed-of (beforeEnd end t) ending (last-runs .0))
 
       assembled : OneText s out Q end
       assembled = record {
-        size = first-size;
+        size = behind-length Q s;
         same-size = last-size;
         run = R;
         reads = known .read;
-        first = one-read;
+        first = first-read;
         carried = carriedOf Q R;
         rereads = known .again;
-        last = other-read;
+        last = last-read;
         ending = ending;
-        here = one-runs .0;
-        there = other-runs .0;
+        here = first-runs .0;
+        there = last-runs .0;
         before = before;
         behind = behind;
         same = same;
@@ -199,17 +193,17 @@ module _ (s out : List ℕ) (Q end : Pauli) where
   unfolding isAccepted
   accepted-half a =
       let known = sent-accepted service s Q out (rw (a .carries)) in
-      assembled s out Q end (a .carries) (known .run) (known .known) (omega (arith, a .fits, first-size s out Q end (a .carries)))
+      assembled s out Q end (a .carries) (known .run) (known .known) (rw (behind-length Q s) at (a .fits))
 
   too-long : carrying service s Q out .answer ≡ accepted end → mostBytes < length (behindStart Q s)
       → (listed (behindStart Q s) ≡ refusalLine 14) × (listed (beforeEnd end (sent service s Q out)) ≡ refusalLine 14)
   unfolding isAccepted
   too-long carries long =
       let known = sent-accepted service s Q out (rw carries) in
-      let other : List ℕ = beforeEnd end (sent service s Q out) in
-      let other-long : mostBytes < length other
-      = omega (arith, long, first-size s out Q end carries, last-size s out Q end carries (known .run) (known .known)) in
-      (listed-refusal (behindStart Q s) 14 0 (run-long service (behindStart Q s) long), listed-refusal other 14 0 (run-long service other other-long))
+      let last : List ℕ = beforeEnd end (sent service s Q out) in
+      let last-long : mostBytes < length last
+      = omega (arith, long, behind-length Q s, last-size s out Q end carries (known .run) (known .known)) in
+      (listed-refusal (behindStart Q s) 14 0 (run-long service (behindStart Q s) long), listed-refusal last 14 0 (run-long service last last-long))
 
 module _ (s u : List ℕ) (E F : Ending) (e : running service s fresh .answer ≡ accepted E) (f : running service u fresh .answer ≡ accepted F) where
   abbrev S : State

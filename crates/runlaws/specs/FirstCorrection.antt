@@ -34,7 +34,7 @@ use Rattle.runlaws.specs.Pieces.{Piece, Pieces}
 use Rattle.runlaws.specs.Run.{Run, runOf}
 use Rattle.runlaws.specs.RunPieces.{startBytes, RunPieces, run-pieces, pieces-run}
 use Rattle.runlaws.specs.WholeRun.{run-allowed}
-use Rattle.runlaws.specs.WithCorrection.{behindStart}
+use Rattle.runlaws.specs.WithCorrection.{behindStart, behind-length}
 
 -- ---- without corrections the fields that are left are the carried run's
 
@@ -110,7 +110,7 @@ module _ (caller : Caller) (narrow : caller .widest ≤ widestKernel) (s : List 
   pub begun-read : length s + 20 ≤ mostBytes → runOf caller (behindStart Q s) ≡ accepted begun
   unfolding widthAfter
   begun-read short = pieces-run caller (behindStart Q s) begun (record {
-    short = omega (arith, ap length whole, length-append (correctionField Q) (parts .bytes), field-length Q, ap length (parts .whole), short);
+    short = rw (behind-length Q s) short;
     bytes = correctionField Q ++ parts .bytes;
     whole = whole;
     pieces = record { first = correctionField Q; rest = parts .bytes; both = refl; this = first-piece; that = parts .pieces };

@@ -4,7 +4,7 @@ use mathlib.Core.List.{List, [], _∷_, _++_, append-assoc}
 use Prim.Native.Nat.{ℕ, _+_, _-_, _≤_}
 use native.Mathlib.Omega.{arith}
 use lib.Ieee.{Float}
-use lib.ListN.{length, take, drop, length-append, take-append-drop}
+use lib.ListN.{length, take, drop, length-append}
 use lib.Seq.{take-append-add, drop-append-add}
 use Rattle.answers.specs.Answer.Answer.{accepted}
 use Rattle.paulilaws.specs.Pauli.{Pauli}
@@ -16,28 +16,23 @@ use Rattle.framelaws.specs.Caller.{Caller}
 use Rattle.framelaws.specs.Memory.{Memory, stepped, ran}
 use Rattle.runlaws.specs.Field.{mostBytes}
 use Rattle.runlaws.specs.FirstCorrection.{correction-allowed}
-use Rattle.runlaws.specs.PauliBytes.{correctionField, field-length, correction-piece}
+use Rattle.runlaws.specs.PauliBytes.{correctionField, correction-piece}
 use Rattle.runlaws.specs.Pieces.{endBytes, Pieces}
 use Rattle.runlaws.specs.Run.{Run, runOf}
 use Rattle.runlaws.specs.RunPieces.{startBytes, run-pieces, pieces-run}
-use Rattle.runlaws.specs.WithCorrection.{putIn, beforeEnd}
+use Rattle.runlaws.specs.WithCorrection.{putIn, beforeEnd, before-length}
 
 -- ---- the bytes
 
--- bytes put in behind others
-put-behind : (a b f : List ℕ) (j : ℕ) → putIn (length a + j) f (a ++ b) ≡ a ++ putIn j f b
-put-behind a b f j = rw (take-append-add, drop-append-add) (append-assoc a (take j b) (f ++ drop j b))
+-- bytes put in so far from the end, behind others
+put-behind : (a b f : List ℕ) (k : ℕ) → k ≤ length b → putIn (length (a ++ b) - k) f (a ++ b) ≡ a ++ putIn (length b - k) f b
+put-behind a b f k h =
+    let place : length (a ++ b) - k ≡ length a + (length b - k) = omega (arith, length-append a b) in
+    rw (place, take-append-add, drop-append-add) (append-assoc a (take (length b - k) b) (f ++ drop (length b - k) b))
 
--- the last three bytes are those of the last part
 end-behind : (E : Pauli) (a b : List ℕ) → 3 ≤ length b → beforeEnd E (a ++ b) ≡ a ++ beforeEnd E b
 unfolding beforeEnd
-end-behind E a b h =
-    let place : length (a ++ b) - 3 ≡ length a + (length b - 3) = omega (arith, length-append a b) in
-    ap (λ (i : ℕ). putIn i (correctionField E) (a ++ b)) place ∙ put-behind a b (correctionField E) (length b - 3)
-
-pub put-length : (i : ℕ) (f s : List ℕ) → length (putIn i f s) ≡ length s + length f
-put-length i f s =
-    omega (arith, length-append (take i s) (f ++ drop i s), length-append f (drop i s), ap length (take-append-drop i s), length-append (take i s) (drop i s))
+end-behind E a b h = put-behind a b (correctionField E) _ (omega (arith, h))
 
 end-left : (caller : Caller) (n : ℕ) (ts : List (Step Float)) (bytes : List ℕ) → Pieces caller n ts bytes → 3 ≤ length bytes
 end-left caller n [] bytes p = omega (arith, ap length (p .is))
@@ -78,7 +73,7 @@ module _ (caller : Caller) (narrow : caller .widest ≤ widestKernel) (E : Pauli
         let start : List ℕ = startBytes (R .width) in
         let last = end-left caller (R .width) (R .steps) (parts .bytes) (parts .pieces) in
         pieces-run caller (beforeEnd E s) ended (record {
-          short = unfold beforeEnd in omega (arith, put-length (length s - 3) (correctionField E) s, field-length E);
+          short = rw (before-length E s) short;
           bytes = beforeEnd E (parts .bytes);
           whole = ap (beforeEnd E) (parts .whole) ∙ end-behind E start (parts .bytes) last;
           pieces = pieces-last (R .width) (R .steps) (parts .bytes) width (parts .pieces);

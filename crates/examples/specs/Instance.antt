@@ -83,7 +83,7 @@ abbrev ending : Ending
 ending = record { width = 1; steps = 9 }
 
 -- the carried run: Y flips the signs of Z's and X's rotations; behind the quarter turn it is -XX, and flips both branches
-abbrev pub carried : List ℕ
+abbrev carried : List ℕ
 carried = steps 1 1 0 1 0
 
 abbrev pub end : Pauli

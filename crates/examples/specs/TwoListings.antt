@@ -1,5 +1,5 @@
 -- Zero prints as zero: the two files of one closed run through every kind of step, byte for byte, and their one text, though the amplitudes that they leave in memory differ in
--- zeros' signs; and the claims, of any run.
+-- zeros' signs; and each claim, of any run.
 use mathlib.Core.Path.{_≡_, refl, sym, ap, _∙_, subst}
 use mathlib.Core.Bool.{true, false, not}
 use mathlib.Core.List.{List, [], _∷_, _++_}
@@ -129,7 +129,8 @@ unfolding listed textOf stateText amplitudeLines fresh widthLine amplitudeLine p
 first-listed = refl
 
 last-listed : listed last ≡ text
-last-listed = sym same-text ∙ first-listed
+unfolding listed textOf stateText amplitudeLines fresh widthLine amplitudeLine part listedBits bitsOf decimal decimalUpTo toBits isNan running onRun memoryRow surveyOf survey surveyFrom surveyed mixedAmplitudes roomFor room roomRow runOf begun startWidth mapped walk follow ended readAt readField judged judgedBy unless decoded fieldAt isWhole bodyLength number floatAt pauliAt fits hermitian coefficient ys widthAfter stepRow rotationStepRow promotionStepRow projectionStepRow rotationKernelRow measurementRow hermitianRow widthRow unitRow promotedWidthRow pivotRow pivotMask inUnit row firstRow answered left le neg ofBits digit overlap parity ones onesIn stepped leaves.rotation leaves.promotion leaves.projection leaves.correction leaves.scratchAfter leaves.scratchBy written point over rotated rotatedBy rotatedAlone rotatedWith rotationCoefficient promoted raisedQubit projected remaining remainingBy projectionCoefficient minus source corrected timesPower power times conjugate direction negated scale scaled mixed openBit add sub mul ran
+last-listed = refl
 
 -- In memory the imaginary part at basis 0 is +0 behind one file and -0 behind the other.
 plus : point (running service first fresh .lent .state) 0 .im ≡ fin false 0 (pos 0)
@@ -140,7 +141,7 @@ minus-zero : point (running service last fresh .lent .state) 0 .im ≡ fin true 
 unfolding fresh running onRun memoryRow surveyOf survey surveyFrom surveyed mixedAmplitudes roomFor room roomRow runOf begun startWidth mapped walk follow ended readAt readField judged judgedBy unless decoded fieldAt isWhole bodyLength number floatAt pauliAt fits hermitian coefficient ys widthAfter stepRow rotationStepRow promotionStepRow projectionStepRow rotationKernelRow measurementRow hermitianRow widthRow unitRow promotedWidthRow pivotRow pivotMask inUnit row firstRow answered left le neg ofBits digit overlap parity ones onesIn stepped leaves.rotation leaves.promotion leaves.projection leaves.correction leaves.scratchAfter leaves.scratchBy written point over rotated rotatedBy rotatedAlone rotatedWith rotationCoefficient promoted raisedQubit projected remaining remainingBy projectionCoefficient minus source corrected timesPower power times conjugate direction negated scale scaled mixed openBit add sub mul ran
 minus-zero = refl
 
--- ---- of any run, output and Paulis: E6's last sentence
+-- ---- of any run, output and Paulis: what E6 asks for
 
 module _ (s out : List ℕ) (Q end : Pauli) (carries : carrying service s Q out .answer ≡ accepted end) (fits : length (behindStart Q s) ≤ 65536) where
   abbrev of-any : OneText s out Q end
@@ -183,8 +184,8 @@ both-too-long = two-listings .long
 
 -- ---- text and numbers
 
-minus-zero-listed : part (fin true 0 (pos 0)) ≡ 32 ∷ noughts
-minus-zero-listed = two-listings .zeros (fin true 0 (pos 0)) tt
+zero-listed : (x : Float) → T (isZero x) → part x ≡ 32 ∷ noughts
+zero-listed = two-listings .zeros
 
 nan-listed : part nan ≡ 32 ∷ 55 ∷ 102 ∷ 102 ∷ 56 ∷ replicate 12 48
 nan-listed = two-listings .nans

@@ -39,4 +39,4 @@ pub mod Folding
 pub mod Folded
 pub mod FoldedSteps
 pub mod Acted
-pub mod Held
+pub mod Representable

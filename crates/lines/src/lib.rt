@@ -27,7 +27,7 @@ pub fn qubits(width: usize, out: &mut [u8]) -> TextAnswer
     line(b"qubits ", width as u64, b"\n", out)
 }
 
-// The basis, and the bits of the two parts of its amplitude.
+// The basis, and the listed bits of the two parts of its amplitude.
 pub fn amplitude(basis: usize, re: f64, im: f64, out: &mut [u8]) -> TextAnswer
     ensures { λ r. ⌜ Lined (amplitudeLine basis re im) (now (out .entry)) r (now (out .exit)) ⌝ }
 {

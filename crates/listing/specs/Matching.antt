@@ -20,7 +20,7 @@ use Rattle.framelaws.specs.Caller.{widestRun, service}
 use Rattle.framelaws.specs.Carried.{survey-carried}
 use Rattle.framelaws.specs.Carrying.{carriedSteps, endPauli}
 use Rattle.framelaws.specs.Fitted.{fitting-end}
-use Rattle.framelaws.specs.Held.{HeldState, ran-held}
+use Rattle.framelaws.specs.Representable.{RepresentableState, ran-representable}
 use Rattle.framelaws.specs.Memory.{Memory, stepped, ran}
 use Rattle.framelaws.specs.Survey.{Survey}
 use Rattle.framelaws.specs.Surveyed.{survey-width, survey-steps}
@@ -40,7 +40,7 @@ use Rattle.runlaws.specs.WithCorrection.{behindStart, beforeEnd, behind-length,
 use Rattle.listing.specs.Listing.{fresh, stateText, textOf, listed}
 use Rattle.listing.specs.Room.{fresh-room, listed-refusal}
 use Rattle.listing.specs.SameText.{state-same, state-tells}
-use Rattle.listing.specs.Start.{fresh-held}
+use Rattle.listing.specs.Start.{fresh-representable}
 use Rattle.listing.specs.TwoListings.{Accepted, OneText, TwoListings}
 
 -- every state of the service's can be corrected
@@ -54,10 +54,10 @@ module _ (s : List ℕ) (E : Ending) (e : running service s fresh .answer ≡ ac
   unfolding listed textOf
   listed-of = ap (λ (a : Answer Ending). textOf a (running service s fresh .lent .state)) e
 
-  left-held : HeldState (running service s fresh .lent .state)
-  left-held =
+  left-representable : RepresentableState (running service s fresh .lent .state)
+  left-representable =
       let done = running-done service s fresh E e in
-      subst (λ (m : Memory). HeldState (m .state)) (sym (done .lent-is)) (ran-held (done .run .width) (done .run .steps) fresh fresh-held)
+      subst (λ (m : Memory). RepresentableState (m .state)) (sym (done .lent-is)) (ran-representable (done .run .width) (done .run .steps) fresh fresh-representable)
 
 -- by the run that it is read as
 module _ (s : List ℕ) (R : Run) (read : runOf service s ≡ accepted R) where
@@ -214,7 +214,7 @@ module _ (s u : List ℕ) (E F : Ending) (e : running service s fresh .answer �
 
   tells : listed s ≡ listed u → (E .width ≡ F .width) × ((b : ℕ) → b < 2 ^ E .width → SameNumbers (point S b) (point U b))
   tells text =
-      state-tells S U (left-held s E e) (left-held u F f) (E .width) (F .width) (sym (listed-of s E e) ∙ text ∙ listed-of u F f)
+      state-tells S U (left-representable s E e) (left-representable u F f) (E .width) (F .width) (sym (listed-of s E e) ∙ text ∙ listed-of u F f)
 
   shows : (E .width ≡ F .width) × ((b : ℕ) → b < 2 ^ E .width → SameNumbers (point S b) (point U b)) → listed s ≡ listed u
   shows h = listed-of s E e ∙ state-same S U (E .width) (h .1) ∙ ap (λ (n : ℕ). stateText n U) (h .0) ∙ sym (listed-of u F f)

@@ -11,7 +11,7 @@ use Rattle.bitlaws.specs.Order.{le-or-lt}
 use Rattle.floatlaws.specs.Same.{same-eq, same-zeros, same-says}
 use Rattle.amplitudelaws.specs.Binary.{Point}
 use Rattle.amplitudelaws.specs.State.{State, point}
-use Rattle.framelaws.specs.Held.{Held, HeldState}
+use Rattle.framelaws.specs.Representable.{Representable, RepresentableState}
 use Rattle.lines.specs.Lengths.{part-length}
 use Rattle.lines.specs.Lines.{decimal, part, widthLine, amplitudeLine}
 use Rattle.lines.specs.Newlines.{lineCount}
@@ -43,7 +43,7 @@ module _ (S U : State) where
 
 -- ---- and the other way round
 
-line-tells : (b : ℕ) (p q : Point) → Held p → Held q → amplitudeLine b (p .re) (p .im) ≡ amplitudeLine b (q .re) (q .im) → SameNumbers p q
+line-tells : (b : ℕ) (p q : Point) → Representable p → Representable q → amplitudeLine b (p .re) (p .im) ≡ amplitudeLine b (q .re) (q .im) → SameNumbers p q
 unfolding amplitudeLine
 line-tells b p q f g e =
     let parts = parts-same {s = decimal b} {u = decimal b} refl e .1 in
@@ -57,16 +57,17 @@ power-same n k e =
     (λ (h : k < n). absurd (omega (arith, pow-lt h, e)))
     (le-or-lt n k)
 
-module _ (S U : State) (f : HeldState S) (g : HeldState U) where
-  lines-long : (d : ℕ) → length (amplitudeLines S d) ≡ length (amplitudeLines U d)
-  lines-long zero = unfold amplitudeLines in refl
-  lines-long (suc d) = next-length S d ∙ omega (arith, lines-long d) ∙ sym (next-length U d)
+-- a line is as long as its basis has it
+lines-long : (S U : State) (d : ℕ) → length (amplitudeLines S d) ≡ length (amplitudeLines U d)
+lines-long S U zero = unfold amplitudeLines in refl
+lines-long S U (suc d) = next-length S d ∙ omega (arith, lines-long S U d) ∙ sym (next-length U d)
 
+module _ (S U : State) (f : RepresentableState S) (g : RepresentableState U) where
   lines-tell : (d : ℕ) → amplitudeLines S d ≡ amplitudeLines U d → (b : ℕ) → b < d → SameNumbers (point S b) (point U b)
   unfolding amplitudeLines
   lines-tell zero e b h = absurd (omega arith)
   lines-tell (suc d) e b h =
-      let both = parts-same (lines-long d) e in
+      let both = parts-same (lines-long S U d) e in
       ⊎-elim (λ (l : d ≤ b). let last : b ≡ d = omega (arith, h, l) in rw last (line-tells d (point S d) (point U d) (f .at d) (g .at d) (both .1)))
       (λ (l : b < d). lines-tell d (both .0) b l)
       (le-or-lt d b)

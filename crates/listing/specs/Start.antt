@@ -11,7 +11,7 @@ use lib.Seq.{getD-set-other}
 use Rattle.amplitudelaws.specs.Binary.{binary}
 use Rattle.amplitudelaws.specs.State.{point}
 use Rattle.framelaws.specs.Caller.{widestRun}
-use Rattle.framelaws.specs.Held.{Held, HeldState}
+use Rattle.framelaws.specs.Representable.{Representable, RepresentableState}
 use Rattle.listing.specs.Listing.{states, fresh}
 
 pub fresh-first : point (fresh .state) 0 ≡ record { re = binary .one; im = binary .nought }
@@ -27,16 +27,16 @@ fresh-others b h =
 
 -- ---- and each of them is a float of binary64
 
-noughts-held : (n k : ℕ) → T (fits binary64 (getD (replicate n (binary .nought)) k nan))
-noughts-held zero k = nan-fits binary64
-noughts-held (suc n) zero = ofBits-fits binary64 0
-noughts-held (suc n) (suc k) = noughts-held n k
+noughts-representable : (n k : ℕ) → T (fits binary64 (getD (replicate n (binary .nought)) k nan))
+noughts-representable zero k = nan-fits binary64
+noughts-representable (suc n) zero = ofBits-fits binary64 0
+noughts-representable (suc n) (suc k) = noughts-representable n k
 
-pub fresh-held : HeldState (fresh .state)
+pub fresh-representable : RepresentableState (fresh .state)
 unfolding fresh point
-fresh-held = record { at = at }
+fresh-representable = record { at = at }
   where
-    at : (b : ℕ) → Held (point (fresh .state) b)
-    at zero = (ofBits-fits binary64 0x3FF0000000000000, noughts-held (2 ^ widestRun) 0)
+    at : (b : ℕ) → Representable (point (fresh .state) b)
+    at zero = (ofBits-fits binary64 0x3FF0000000000000, noughts-representable (2 ^ widestRun) 0)
     at (suc b) =
-        (rw (getD-set-other states 0 (suc b) (binary .one) nan (λ e. omega arith)) (noughts-held (2 ^ widestRun) (suc b)), noughts-held (2 ^ widestRun) (suc b))
+        (rw (getD-set-other states 0 (suc b) (binary .one) nan (λ e. omega arith)) (noughts-representable (2 ^ widestRun) (suc b)), noughts-representable (2 ^ widestRun) (suc b))

@@ -24,7 +24,7 @@ use Rattle.listing.specs.Listing.{fresh, listed}
 
 -- ---- accepted
 
--- All that is asked. A run and a Pauli as in frame carrying: no row refuses to carry it, whatever output it is carried into. One file is the run with the Pauli as a correction right after
+-- All that is asked. A run and a Pauli as in frame carrying: no row refuses to carry it into the output, whatever that holds. One file is the run with the Pauli as a correction right after
 -- start, the other the carried run with the end Pauli as one right before end. Both fit in 65,536 bytes: they have the same length.
 pub record Accepted (s out : List ℕ) (Q end : Pauli) : Type 0 where
   pub carries : carrying service s Q out .answer ≡ accepted end

@@ -18,10 +18,12 @@ const END_BYTES: usize = 3;
 const CORRECTION_BYTES: usize = 20;
 
 // Long enough for every listing.
-fn text_room() -> [u8; 159754]
+const TEXT_BYTES: usize = 159754;
+
+fn text_room() -> [u8; TEXT_BYTES]
     ensures { λ r. ⌜ 159754 ≡ length r ⌝ }
 {
-    [0; 159754]
+    [0; TEXT_BYTES]
 }
 
 pub(crate) fn both(run: &[u8], pauli: ActivePauli) {
@@ -47,7 +49,7 @@ fn first(run: &[u8], pauli: ActivePauli, out: &[u8], end: ActivePauli) {
     }
     let mut text = text_room();
     let size = listed(run, fields::START_BYTES, pauli, &mut text);
-    if 159754 < size {
+    if TEXT_BYTES < size {
         show::unread();
         return;
     }
@@ -63,7 +65,7 @@ fn second(left: &[u8], carried: &[u8], end: ActivePauli) {
     }
     let mut text = text_room();
     let size = listed(carried, n - END_BYTES, end, &mut text);
-    if 159754 < size {
+    if TEXT_BYTES < size {
         show::unread();
         return;
     }
@@ -93,7 +95,7 @@ fn listed(run: &[u8], at: usize, pauli: ActivePauli, text: &mut [u8]) -> usize {
 
 // The run with a field put in at `at`, written to the start of `file`: its length, or usize::MAX where the run is
 // shorter than `at`, or there is no room.
-fn corrected(run: &[u8], at: usize, field: [u8; 20], file: &mut [u8]) -> usize {
+fn corrected(run: &[u8], at: usize, field: [u8; CORRECTION_BYTES], file: &mut [u8]) -> usize {
     if run.len() < at {
         return usize::MAX;
     }
@@ -111,8 +113,8 @@ fn corrected(run: &[u8], at: usize, field: [u8; 20], file: &mut [u8]) -> usize {
 }
 
 // A correction's tag and its body's length, then the body: k, x, z.
-fn field(pauli: ActivePauli) -> [u8; 20] {
-    let mut field = [0u8; 20];
+fn field(pauli: ActivePauli) -> [u8; CORRECTION_BYTES] {
+    let mut field = [0u8; CORRECTION_BYTES];
     field[0] = steps::tag::CORRECTION;
     field[1] = 17;
     field[3] = pauli.phase;
@@ -122,7 +124,7 @@ fn field(pauli: ActivePauli) -> [u8; 20] {
 }
 
 // The word's eight bytes, the lowest first, from `at` on.
-fn put(word: u64, at: usize, field: &mut [u8; 20])
+fn put(word: u64, at: usize, field: &mut [u8; CORRECTION_BYTES])
     requires { ⌜ at ≤ 12 ⌝ }
 {
     let mut left = word;

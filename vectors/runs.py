@@ -2495,12 +2495,17 @@ def seeking_emulated(lines):
 
 def seeking_unread(lines):
     lines.say("Not read: no number, one too few, one too many; a run of 66,001 bytes.")
+    unread_of_four(lines, "seeker", seek_line)
+
+
+def unread_of_four(lines, call, line_of):
+    """A call on a run and a Pauli's four numbers, by either caller."""
     text = spelled(starting(1), END)
-    whole = seek_line(text, (1, *X))
-    for line in (f"seeker {text}", whole.rpartition(" ")[0], whole + " 0x1"):
+    whole = line_of(text, (1, *X))
+    for line in (f"{call} {text}", whole.rpartition(" ")[0], whole + " 0x1"):
         lines.ask(line, "unread")
         lines.ask(on_emulator(line), "unread")
-    lines.ask(seek_line(spelled(starting(1), END, (HELD - 6, bytes(1))), (1, *X)), "unread")
+    lines.ask(line_of(spelled(starting(1), END, (HELD - 6, bytes(1))), (1, *X)), "unread")
 
 
 def folding(lines):
@@ -3379,14 +3384,9 @@ def listing_refused(lines):
 
 def listing_unread(lines):
     lines.say("Not read: no number, one too few, one too many; a run of 66,001 bytes; for the emulator, which has no listing.")
-    text = spelled(starting(1), END)
-    whole = show_line(text, (1, *X))
-    for line in (f"both-show {text}", whole.rpartition(" ")[0], whole + " 0x1"):
-        lines.ask(line, "unread")
-        lines.ask(on_emulator(line), "unread")
-    lines.ask(show_line(spelled(starting(1), END, (HELD - 6, bytes(1))), (1, *X)), "unread")
-    for line in (whole, show_line(spelled(), (1, *X)), show_line(spelled(starting(7), END), (7, *X))):
-        lines.ask(on_emulator(line), "unread")
+    unread_of_four(lines, "both-show", show_line)
+    for text, n in ((spelled(starting(1), END), 1), (spelled(), 1), (spelled(starting(7), END), 7)):
+        lines.ask(on_emulator(show_line(text, (n, *X))), "unread")
 
 
 def listing_random(lines):

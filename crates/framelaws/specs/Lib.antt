@@ -40,3 +40,5 @@ pub mod Folded
 pub mod FoldedSteps
 pub mod Acted
 pub mod Representable
+pub mod Reporting
+pub mod Reported

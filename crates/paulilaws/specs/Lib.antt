@@ -8,3 +8,4 @@ pub mod Frame
 pub mod Exchange
 pub mod MaskWord
 pub mod Printed
+pub mod AntiMask

@@ -1,0 +1,6 @@
+pub mod Text
+pub mod Narrow
+pub mod Stored
+pub mod Lengths
+pub mod Input
+pub mod Found

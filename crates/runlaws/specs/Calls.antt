@@ -1,9 +1,11 @@
 -- What the calls on runs answer, and what they leave in the lent buffers, refused or not.
 use mathlib.Core.Bool.{not, _&&_}
 use mathlib.Core.List.{List, _++_}
+use mathlib.Core.Option.{Option, none, some}
 use Prim.Native.Nat.{ℕ}
 use lib.Dec.{ltb}
-use lib.ListN.{length, drop}
+use lib.Ieee.{Float}
+use lib.ListN.{length, drop, getElem?}
 use Rattle.answers.specs.Answer.{Answer}
 use Rattle.answers.specs.Answer.Answer.{accepted, refused, refusedAt}
 use Rattle.answers.specs.Row.{row, first, answered}
@@ -17,11 +19,12 @@ use Rattle.framelaws.specs.Carrying.{carriedSteps, endPauli}
 use Rattle.framelaws.specs.Folding.{foldedEnd}
 use Rattle.framelaws.specs.Memory.{Memory, ran}
 use Rattle.framelaws.specs.PassRow.{placedRow}
+use Rattle.framelaws.specs.Reporting.{Framed, Report, framedSteps, reportOf}
 use Rattle.framelaws.specs.Seeking.{isReached, startFor}
 use Rattle.framelaws.specs.Survey.{Survey, survey}
 use Rattle.runlaws.specs.Flags.{flagged}
 use Rattle.runlaws.specs.FoldedRun.{foldedRun}
-use Rattle.runlaws.specs.Run.{Run, mapped, runOf}
+use Rattle.runlaws.specs.Run.{Run, mapped, chained, runOf}
 
 -- a run that is refused leaves what was lent as it was
 unfoldable pub onRun : {A B : Type 0} → Answer Run → B → (Run → Outcome A B) → Outcome A B
@@ -110,3 +113,29 @@ foldingRow size room = row (ltb room size) 16 0
 unfoldable pub folding : Caller → List ℕ → List ℕ → Outcome Folding (List ℕ)
 folding caller s out =
     onRun (runOf caller s) out (λ R. let left = foldedRun R s in byRow (foldingRow (length left) (length out)) (foldingOf s R) (left ++ drop (length left) out) out)
+
+-- ---- reporting
+
+-- every step of a run with the frame before it, and the frame behind the last
+pub record Frames : Type 0 where
+  pub steps : List (Framed Float)
+  pub last : Pauli
+
+abbrev pub framesOf : Pauli → Run → Frames
+framesOf Q R = record { steps = framedSteps Q (R .steps); last = endPauli Q (R .steps) }
+
+-- 3: no Pauli, 4: not on the start qubits
+unfoldable pub framing : Caller → List ℕ → Pauli → Answer Frames
+framing caller s Q = ofRun (runOf caller s) (λ R. answered (placedRow Q (R .width)) (framesOf Q R))
+
+-- 20, behind all others: no step of this number
+unfoldable pub found : Option (Framed Float) → Answer (Framed Float)
+found none = refused 20
+found (some f) = accepted f
+
+-- the step of a number, which is 0 at the first field behind start
+unfoldable pub finding : Caller → List ℕ → Pauli → ℕ → Answer (Framed Float)
+finding caller s Q i = chained (framing caller s Q) (λ F. found (getElem? (F .steps) i))
+
+unfoldable pub reporting : Caller → List ℕ → Pauli → ℕ → Answer Report
+reporting caller s Q i = mapped reportOf (finding caller s Q i)

@@ -48,3 +48,4 @@ pub mod TwoCallers
 pub mod SharedRun
 pub mod OwnRow
 pub mod Agreement
+pub mod Found

@@ -25,6 +25,12 @@ mapped f (accepted a) = accepted (f a)
 mapped f (refused n) = refused n
 mapped f (refusedAt n i) = refusedAt n i
 
+-- an accepted value, asked on; a refusal as it was
+unfoldable pub chained : {A B : Type 0} → Answer A → (A → Answer B) → Answer B
+chained (accepted a) f = f a
+chained (refused n) f = refused n
+chained (refusedAt n i) f = refusedAt n i
+
 -- the end field stands last: bytes past it are refused at the first of them
 unfoldable pub ended : List ℕ → Cursor → Answer (List (Step Float))
 ended s c = cond (ltb (c .at) (length s)) (refusedAt 14 (c .at)) (accepted [])

@@ -19,7 +19,7 @@ use Rattle.framelaws.specs.Reporting.Report.{noFlag, flagged}
 use Rattle.lines.specs.Lengths.{decimal-most}
 use Rattle.lines.specs.Lines.{decimal}
 use Rattle.reports.specs.Narrow.{NarrowPauli, NarrowStep}
-use Rattle.reports.specs.Text.{qubitText, qubitsFrom, qubitsText, flagText, kindText, frameText, stepLine, endLine, refusalAtLine}
+use Rattle.reports.specs.Text.{qubitText, qubitsFrom, qubitsText, flagText, kindText, stepText, frameText, stepLine, endLine, refusalAtLine}
 
 -- ---- a number
 
@@ -91,30 +91,30 @@ kind-most (projection M p v invnorm) h = omega (arith, narrow-most M (h .narrow)
 kind-most (correction P) h = omega (arith, narrow-most P (h .narrow))
 kind-most (quarterTurn P) h = omega (arith, narrow-most P (h .narrow))
 
+pub text-most : (i : ℕ) (t : Step Float) → i < 2 ^ 64 → NarrowStep t → length (stepText i t) ≤ 54
+unfolding stepText
+text-most i t h k = omega (arith, length-append (decimal i) (32 ∷ kindText t), word-digits i h, kind-most t k)
+
 pub frame-most : (Q : Pauli) → Q .n ≤ widestRun → length (frameText Q) ≤ 22
 unfolding frameText
 frame-most Q h = omega (arith, narrow-most Q h)
 
 -- ---- the lines
 
-module _ (i : ℕ) (f : Framed Float) where
-  pub step-most : i < 2 ^ 64 → NarrowPauli (f .frame) → NarrowStep (f .step) → length (stepLine i f) ≤ 128
-  unfolding stepLine
-  step-most h p t =
-      let flag : List ℕ = flagText (f .frame .n) (reportOf f) in
-      let frame : List ℕ = frameText (f .frame) in
-      let kind : List ℕ = kindText (f .step) in
-      omega (
-        arith,
-        length-append (decimal i) (32 ∷ (kind ++ (frame ++ (flag ++ 10 ∷ [])))),
-        length-append kind (frame ++ (flag ++ 10 ∷ [])),
-        length-append frame (flag ++ 10 ∷ []),
-        length-append flag (10 ∷ []),
-        word-digits i h,
-        kind-most (f .step) t,
-        frame-most (f .frame) (p .narrow),
-        flag-most (f .frame .n) (p .narrow) (reportOf f),
-      )
+pub step-most : (i : ℕ) (f : Framed Float) → i < 2 ^ 64 → NarrowPauli (f .frame) → NarrowStep (f .step) → length (stepLine i f) ≤ 128
+unfolding stepLine
+step-most i f h p t =
+    let flag : List ℕ = flagText (f .frame .n) (reportOf f) in
+    let frame : List ℕ = frameText (f .frame) in
+    omega (
+      arith,
+      length-append (stepText i (f .step)) (frame ++ (flag ++ 10 ∷ [])),
+      length-append frame (flag ++ 10 ∷ []),
+      length-append flag (10 ∷ []),
+      text-most i (f .step) h t,
+      frame-most (f .frame) (p .narrow),
+      flag-most (f .frame .n) (p .narrow) (reportOf f),
+    )
 
 pub end-most : (E : Pauli) → E .n ≤ widestRun → length (endLine E) ≤ 26
 unfolding endLine

@@ -44,15 +44,19 @@ kindText (projection M p v invnorm) = 112 ∷ 114 ∷ 111 ∷ 106 ∷ 101 ∷ 99
 kindText (correction P) = 99 ∷ 111 ∷ 114 ∷ 114 ∷ 101 ∷ 99 ∷ 116 ∷ 105 ∷ 111 ∷ 110 ∷ 32 ∷ shown P
 kindText (quarterTurn P) = 113 ∷ 117 ∷ 97 ∷ 114 ∷ 116 ∷ 101 ∷ 114 ∷ 45 ∷ 116 ∷ 117 ∷ 114 ∷ 110 ∷ 32 ∷ shown P
 
+-- `step `, its number and its kind
+unfoldable pub stepText : ℕ → Step Float → List ℕ
+stepText i t = 115 ∷ 116 ∷ 101 ∷ 112 ∷ 32 ∷ (decimal i ++ 32 ∷ kindText t)
+
 -- ` frame ` and the frame
 unfoldable pub frameText : Pauli → List ℕ
 frameText Q = 32 ∷ 102 ∷ 114 ∷ 97 ∷ 109 ∷ 101 ∷ 32 ∷ shown Q
 
 -- ---- the lines
 
--- `step ` and its number, its kind, the frame before it and its flag
+-- a step, the frame before it and its flag
 unfoldable pub stepLine : ℕ → Framed Float → List ℕ
-stepLine i f = 115 ∷ 116 ∷ 101 ∷ 112 ∷ 32 ∷ (decimal i ++ (32 ∷ (kindText (f .step) ++ (frameText (f .frame) ++ (flagText (f .frame .n) (reportOf f) ++ 10 ∷ [])))))
+stepLine i f = stepText i (f .step) ++ (frameText (f .frame) ++ (flagText (f .frame .n) (reportOf f) ++ 10 ∷ []))
 
 -- `end` and the frame behind the last step
 unfoldable pub endLine : Pauli → List ℕ

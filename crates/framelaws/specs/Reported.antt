@@ -1,14 +1,13 @@
 -- The frame before a step is the end of carrying past those before it; the step numbers are those of the list, from 0.
-use mathlib.Core.Path.{_≡_, refl, ap, _∙_}
+use mathlib.Core.Path.{_≡_, refl, ap}
 use mathlib.Core.List.{List, [], _∷_, _++_}
-use mathlib.Core.Option.{Option, none, some}
+use mathlib.Core.Option.{none, some}
 use Prim.Native.Nat.{ℕ, zero, suc, _≤_, _<_}
-use native.Mathlib.Nat.{zero-lt-suc}
 use native.Mathlib.Omega.{arith}
 use lib.ListN.{length, getElem?}
 use Rattle.paulilaws.specs.Pauli.{Pauli}
 use Rattle.amplitudelaws.specs.Step.{Step}
-use Rattle.framelaws.specs.Carrying.{passed, endPauli}
+use Rattle.framelaws.specs.Carrying.{passed, endPauli, carriedStep, carriedSteps}
 use Rattle.framelaws.specs.Reporting.{Framed, framedSteps}
 
 -- Step number i of a list: those before it, which are i, the step, and those behind it.
@@ -53,3 +52,10 @@ module _ {R : Type 0} where
   framed-some Q [] i h = absurd (omega arith)
   framed-some Q (t ∷ ts) zero h = record { framed = record { frame = Q; step = t }; is = refl }
   framed-some Q (t ∷ ts) (suc i) h = let k = framed-some (passed Q t) ts i (omega arith) in record { framed = k .framed; is = k .is }
+
+  -- ---- and of the carried steps the one of that number is the step as this frame leaves it
+  pub carried-at : (Q : Pauli) (before : List (Step R)) (t : Step R) (after : List (Step R))
+      → carriedSteps Q (before ++ t ∷ after) ≡ carriedSteps Q before ++ carriedStep (endPauli Q before) t ∷ carriedSteps (passed (endPauli Q before) t) after
+  unfolding carriedSteps endPauli
+  carried-at Q [] t after = refl
+  carried-at Q (b ∷ before) t after = ap (λ (l : List (Step R)). carriedStep Q b ∷ l) (carried-at (passed Q b) before t after)

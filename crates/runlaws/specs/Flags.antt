@@ -16,6 +16,11 @@ module _ {R : Type 0} where
   fieldSize (correction P) = 20
   fieldSize (quarterTurn P) = 20
 
+  -- of several
+  unfoldable pub fieldsSize : List (Step R) → ℕ
+  fieldsSize [] = 0
+  fieldsSize (t ∷ ts) = fieldSize t + fieldsSize ts
+
   -- the step's sign or branch, written where the field that begins at `at` has it
   unfoldable pub flagAt : ℕ → Step R → List ℕ → List ℕ
   flagAt at (rotation P sign c s) bytes = set bytes (at + 20) sign

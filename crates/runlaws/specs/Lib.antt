@@ -49,3 +49,6 @@ pub mod SharedRun
 pub mod OwnRow
 pub mod Agreement
 pub mod Found
+pub mod StepReports
+pub mod CutRun
+pub mod Reporting

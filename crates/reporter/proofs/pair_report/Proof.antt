@@ -1,10 +1,10 @@
 -- `pair_report`: the count of the mask's ones is odd exactly where the two anticommute, whatever the widths say, since each mask is one word.
-use mathlib.Core.Path.{_≡_, sym, ap, ap₂, _∙_}
+use mathlib.Core.Path.{_≡_, ap, _∙_}
 use mathlib.Core.Bool.{Bool}
 use Prim.Native.Nat.{ℕ, _^_, _<_}
 use lib.Dec.{eqb}
 use Rattle.bitlaws.specs.Parity.{parity}
-use Rattle.paulilaws.specs.Pauli.{Pauli, anti}
+use Rattle.paulilaws.specs.Pauli.{Pauli}
 use Rattle.paulilaws.specs.AntiMask.{antiMask, anti-mask}
 use Rattle.framelaws.specs.Reporting.{pairReport}
 use Rattle.framelaws.specs.Reporting.Report.{flagged}

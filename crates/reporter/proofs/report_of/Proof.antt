@@ -1,4 +1,3 @@
-use mathlib.Core.Path.{refl}
 use Rattle.framelaws.specs.Reporting.{stepReport}
 use borrow.Author.Needs.{needs}
 use Rattle.reporter.proofs.report_of.Statement.{statement}

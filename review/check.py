@@ -17,7 +17,7 @@ import sys
 ROOT = pathlib.Path(__file__).resolve().parent.parent
 CRATES = ROOT / "crates"
 PROGRAMS = {p.parent.parent.name for p in CRATES.glob("*/src/main.rt")}
-TESTS = {"pauli_calls", "kernel_calls", "run_calls"}  # text in, text out: libraries of the test programs
+TESTS = {"pauli_calls", "kernel_calls", "run_text", "run_calls"}  # text in, text out: libraries of the test programs
 # What nothing else cites since it is what is shown.
 RESULTS = set("""
 product-acts anticommute commute identity-product product-identity product-assoc hermitian-square sign-phase raised-acts dropped-acts
@@ -25,7 +25,7 @@ support-some support-none letter-set letter-kept coefficient-kept exact round-tr
 run-exact book starred printed constants survey-most survey-most-scratch source-only open-drop seen-tells seen-once read-tells past-tells qubit-tells
 default-top listed-run listed-refusal listed-count fresh-first fresh-others run-pieces pieces-run pauli-same pauli-small correction-piece
 seen-by-a-tag seen-by-its-tag step-tag end-tag quarter-turn-is flag-own
-frame-at-the-emulator service-and-emulator only-the-emulator only-the-service
+frame-at-the-emulator service-and-emulator only-the-emulator only-the-service own-line none-numbered first-part number-back
 """.split())
 found = []
 

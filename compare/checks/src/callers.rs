@@ -2,7 +2,7 @@
 
 use crate::state::Buffers;
 use model::run::{Caller, EMULATOR, SERVICE};
-use naribhush::{ActivePauli, Answer, Ending, Folding, Ledger, Refusal, Survey};
+use naribhush::{ActivePauli, Answer, Ending, Folding, Ledger, Refusal, Report, Survey};
 
 #[derive(Clone, Copy, Debug, PartialEq, Eq)]
 pub enum Who {
@@ -34,6 +34,7 @@ pub struct Names {
     pub carry: Name,
     pub seek: Name,
     pub fold: Name,
+    pub report: Name,
 }
 
 const SERVICES: Names = Names {
@@ -57,6 +58,10 @@ const SERVICES: Names = Names {
         run: "fold",
         caller: "fold, the call's own",
     },
+    report: Name {
+        run: "report",
+        caller: "report, the call's own",
+    },
 };
 
 const EMULATORS: Names = Names {
@@ -79,6 +84,10 @@ const EMULATORS: Names = Names {
     fold: Name {
         run: "fold_emulated",
         caller: "fold_emulated, the call's own",
+    },
+    report: Name {
+        run: "report_emulated",
+        caller: "report_emulated, the call's own",
     },
 };
 
@@ -138,6 +147,13 @@ impl Who {
         match self {
             Who::Service => naribhush::fold_run(bytes, out),
             Who::Emulator => naribhush::fold_emulated(bytes, out),
+        }
+    }
+
+    pub fn report(self, bytes: &[u8], q: ActivePauli, number: usize) -> Answer<Report> {
+        match self {
+            Who::Service => naribhush::report_step(bytes, q, number),
+            Who::Emulator => naribhush::report_emulated(bytes, q, number),
         }
     }
 

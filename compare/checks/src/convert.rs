@@ -1,8 +1,9 @@
 //! Between the model's types and those of the calls.
 
 use model::pauli::Pauli;
+use model::report::Flag;
 use model::run::{Found, Refusal, Step, Survey};
-use naribhush::{ActivePauli, Answer, Ending, Field, Read};
+use naribhush::{ActivePauli, Answer, Ending, Field, Read, Report};
 
 pub fn active(p: Pauli) -> ActivePauli {
     ActivePauli {
@@ -40,6 +41,13 @@ pub fn ending(seen: Survey) -> Ending {
     Ending {
         width: seen.width,
         steps: seen.steps,
+    }
+}
+
+pub fn report(flag: Option<Flag>) -> Report {
+    match flag {
+        None => Report::NoFlag,
+        Some(Flag { changed, mask }) => Report::Flagged { changed, mask },
     }
 }
 

@@ -23,6 +23,7 @@ pub mod offers;
 pub mod outcomes;
 pub mod passed;
 pub mod patterns;
+pub mod reporting;
 pub mod seeking;
 pub mod state;
 pub mod tally;

@@ -7,7 +7,7 @@ use crate::outcomes::Outcomes;
 use crate::patterns::{filling_bytes, hex, written_at_start};
 use model::dice::Dice;
 use model::run::{SERVICE, check};
-use naribhush::Refusal;
+use naribhush::{Answer, Refusal};
 
 /// The state that a run leaves, re and im, from amplitude (1, 0) at basis 0; or the number of the row that refuses the run.
 pub type Left = Result<[Vec<f64>; 2], u8>;
@@ -49,26 +49,29 @@ pub fn text(left: &Left) -> String {
     text
 }
 
+/// What a call that writes this text answers with so much room for it, and what it writes.
+pub fn told(text: &str, room: usize) -> (Answer<usize>, &[u8]) {
+    let too_short = Refusal {
+        number: 16,
+        place: None,
+    };
+    match room < text.len() {
+        true => (Err(too_short), &[]),
+        false => (Ok(text.len()), text.as_bytes()),
+    }
+}
+
 pub fn listing(lender: &Lender, dice: &mut Dice, bytes: &[u8], seen: &mut Outcomes) {
     let text = text(&left(bytes));
     let room = length_about(dice, text.len());
-    let (expected, written) = match room < text.len() {
-        true => (
-            Err(Refusal {
-                number: 16,
-                place: None,
-            }),
-            "",
-        ),
-        false => (Ok(text.len()), &text[..]),
-    };
+    let (expected, written) = told(&text, room);
     let before = filling_bytes(dice, room);
     let mut out = lender.lend(dice, &before);
     let answered = naribhush::list_run(bytes, &mut out);
 
     let input = || format!("room {room}, run {}", hex(bytes));
     seen.answered("listing", &answered, &expected, input);
-    let right = written_at_start(&out, written.as_bytes(), &before);
+    let right = written_at_start(&out, written, &before);
     seen.holds("listing", "out is as it should be", right, input);
 }
 

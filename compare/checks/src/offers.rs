@@ -3,19 +3,20 @@
 //! the lent run stays as it was.
 
 use crate::callers::{BOTH, Who};
-use crate::convert::{active, answer, ending, pauli, read, survey};
+use crate::convert::{active, answer, ending, pauli, read, report, survey};
 use crate::draw;
 use crate::folding::told;
 use crate::lent::Lender;
-use crate::listings::listing;
+use crate::listings::{self, listing};
 use crate::mutate::bad_pauli;
-use crate::numbers::any_active;
+use crate::numbers::{any_active, any_size};
 use crate::outcomes::Outcomes;
 use crate::patterns::{filling_bytes, hex, written_at_start};
 use crate::state::{Buffers, Contents, patterns};
 use model::carry::carrying;
 use model::dice::Dice;
 use model::pauli::Pauli;
+use model::report::{reporting, step_list};
 use model::run::{self, Caller, EMULATOR, Survey, read_at, running};
 use model::seek::{end_of, seeking, serves};
 use naribhush::{Answer, Ending, Ledger, Read};
@@ -26,6 +27,7 @@ pub fn offer(lender: &Lender, dice: &mut Dice, bytes: &[u8], seen: &mut Outcomes
     let lent = lender.lend(dice, bytes);
     // Each with dice of its own: the other calls draw what they would draw without it.
     let [mut for_seeks, mut for_folds] = [!dice.0, dice.0.swap_bytes()].map(Dice);
+    let mut for_reports = Dice(dice.0.rotate_left(32));
     reads(dice, &lent, seen);
     check(dice, &lent, seen);
     for who in BOTH {
@@ -33,7 +35,9 @@ pub fn offer(lender: &Lender, dice: &mut Dice, bytes: &[u8], seen: &mut Outcomes
         carry(lender, dice, who, &lent, seen);
         seek(&mut for_seeks, who, &lent, seen);
         fold(lender, &mut for_folds, who, &lent, seen);
+        reports(&mut for_reports, who, &lent, seen);
     }
+    list_steps(lender, &mut for_reports, &lent, seen);
     // Seldom: a listing can be 158,644 bytes long.
     if dice.once_in(16) {
         listing(lender, dice, &lent, seen);
@@ -233,7 +237,8 @@ fn any_ledger(dice: &mut Dice) -> Ledger {
 // ----------------------------------------------------------------- carrying
 
 /// Mostly on the run's start qubits.
-fn any_frame(dice: &mut Dice, start: usize) -> Pauli {
+fn any_frame(dice: &mut Dice, bytes: &[u8]) -> Pauli {
+    let start = bytes.get(3).map_or(0, |&n| n as usize);
     let q = draw::pauli(dice, start);
     damaged(dice, q)
 }
@@ -253,8 +258,7 @@ fn damaged(dice: &mut Dice, p: Pauli) -> Pauli {
 
 fn carry(lender: &Lender, dice: &mut Dice, who: Who, bytes: &[u8], seen: &mut Outcomes) {
     let name = &who.names().carry;
-    let start = bytes.get(3).map_or(0, |&n| n as usize);
-    let q = any_frame(dice, start);
+    let q = any_frame(dice, bytes);
     let room = match dice.once_in(3) {
         true => length_about(dice, bytes.len()),
         false => bytes.len(),
@@ -323,4 +327,45 @@ fn fold(lender: &Lender, dice: &mut Dice, who: Who, bytes: &[u8], seen: &mut Out
     seen.answered(name.of(&answered), &answered, &expected, input);
     let right = written_at_start(&out, &written, &before);
     seen.holds(name.run, "out is as it should be", right, input);
+}
+
+// ---------------------------------------------------------------- reporting
+
+/// Mostly of a field of the run, or a little past the last.
+fn any_number(dice: &mut Dice, bytes: &[u8]) -> usize {
+    match dice.below(8) {
+        0 => any_size(dice),
+        _ => dice.below(places(bytes).len()),
+    }
+}
+
+/// Nothing is lent for writing.
+fn reports(dice: &mut Dice, who: Who, bytes: &[u8], seen: &mut Outcomes) {
+    let name = &who.names().report;
+    let (q, number) = (any_frame(dice, bytes), any_number(dice, bytes));
+    let answered = who.report(bytes, active(q), number);
+
+    let input = || format!("{q:?}, step {number}, run {}", hex(bytes));
+    let expected = answer(reporting(bytes, who.caller(), q, number), report);
+    seen.answered(name.of(&answered), &answered, &expected, input);
+}
+
+/// Every run has a text: its steps, or its refusal. The two are counted apart.
+fn list_steps(lender: &Lender, dice: &mut Dice, bytes: &[u8], seen: &mut Outcomes) {
+    let q = any_frame(dice, bytes);
+    let text = step_list(bytes, q);
+    let room = length_about(dice, text.len());
+    let before = filling_bytes(dice, room);
+    let mut out = lender.lend(dice, &before);
+    let answered = naribhush::list_steps(bytes, active(q), &mut out);
+
+    let input = || format!("{q:?}, room {room}, run {}", hex(bytes));
+    let (expected, written) = listings::told(&text, room);
+    let call = match text.starts_with("refused") {
+        true => "list_steps, a refusal",
+        false => "list_steps",
+    };
+    seen.answered(call, &answered, &expected, input);
+    let right = written_at_start(&out, written, &before);
+    seen.holds(call, "out is as it should be", right, input);
 }

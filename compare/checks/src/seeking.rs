@@ -92,7 +92,8 @@ impl Named {
     }
 }
 
-fn no_pauli(dice: &mut Dice, n: usize) -> Pauli {
+/// What is no Pauli, its number of qubits being this.
+pub fn no_pauli(dice: &mut Dice, n: usize) -> Pauli {
     loop {
         let p = draw::pauli(dice, n);
         let p = bad_pauli(dice, p);
@@ -103,7 +104,7 @@ fn no_pauli(dice: &mut Dice, n: usize) -> Pauli {
 }
 
 /// A Pauli, but not on n qubits.
-fn on_others(dice: &mut Dice, n: usize) -> Pauli {
+pub fn on_others(dice: &mut Dice, n: usize) -> Pauli {
     let others = [0, n.saturating_sub(1), n + 1, n + 2, 12, 64, 256];
     let other = dice.pick(&others.map(|other| if other == n { n + 1 } else { other }));
     draw::pauli(dice, other)

@@ -215,7 +215,7 @@ fn listed(lender: &Lender, dice: &mut Dice, file: &[u8], name: &str) -> Check<(L
 }
 
 /// The first line of the text that was written otherwise.
-fn first_difference(out: &Lent<u8>, text: &str) -> String {
+pub fn first_difference(out: &Lent<u8>, text: &str) -> String {
     let written = String::from_utf8_lossy(&out[..text.len()]);
     let mut lines = written.lines().zip(text.lines());
     match lines.find(|(written, told)| written != told) {

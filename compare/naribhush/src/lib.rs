@@ -143,6 +143,18 @@ pub struct Folding {
     pub size: usize,
 }
 
+/// What is reported of a step: whether carrying changed its sign or branch, and the mask of the qubits on which the Pauli carried
+/// so far and the step's anticommute.
+#[derive(Clone, Copy, Debug, PartialEq, Eq, Default)]
+pub enum Report {
+    #[default]
+    NoFlag,
+    Flagged {
+        changed: bool,
+        mask: u64,
+    },
+}
+
 #[repr(C)]
 #[derive(Clone, Copy, Debug, PartialEq, Eq, Default)]
 pub struct Ledger {
@@ -196,6 +208,14 @@ struct SeenFolding {
     size: usize,
 }
 
+/// A report's kind is 0 for no flag, 1 for one that was kept and 2 for one that was changed.
+#[repr(C)]
+struct SeenReport {
+    verdict: Verdict,
+    kind: u8,
+    mask: u64,
+}
+
 #[repr(C)]
 struct SeenServed {
     ending: SeenEnding,
@@ -246,6 +266,21 @@ impl SeenFolding {
     }
 }
 
+impl SeenReport {
+    fn answer(self) -> Answer<Report> {
+        let (kind, mask) = (self.kind, self.mask);
+        assert!(kind <= 2, "no kind of report: {kind}");
+        assert!(kind != 0 || mask == 0, "a mask beside no flag: {mask}");
+        self.verdict.answer(match kind {
+            0 => Report::NoFlag,
+            _ => Report::Flagged {
+                changed: kind == 2,
+                mask,
+            },
+        })
+    }
+}
+
 #[rustfmt::skip]
 unsafe extern "C" {
     fn naribhush_is_odd_popcount(value: u64) -> bool;
@@ -291,6 +326,8 @@ unsafe extern "C" {
     fn naribhush_carry(run: *const u8, len: usize, pauli: ActivePauli, out: *mut u8, out_len: usize) -> Seen<ActivePauli>;
     fn naribhush_seek(run: *const u8, len: usize, end: ActivePauli) -> Seen<ActivePauli>;
     fn naribhush_fold(run: *const u8, len: usize, out: *mut u8, out_len: usize) -> SeenFolding;
+    fn naribhush_report(run: *const u8, len: usize, pauli: ActivePauli, number: usize) -> SeenReport;
+    fn naribhush_list_steps(run: *const u8, len: usize, pauli: ActivePauli, out: *mut u8, out_len: usize) -> Seen<usize>;
     fn naribhush_past(pauli: ActivePauli, step: GivenStep) -> Seen<Past>;
     fn naribhush_listing(run: *const u8, len: usize, out: *mut u8, out_len: usize) -> Seen<usize>;
     fn naribhush_serve(ledger: Ledger, run: *const u8, len: usize, re: *mut f64, re_len: usize, im: *mut f64, im_len: usize, scratch_re: *mut f64, scratch_re_len: usize, scratch_im: *mut f64, scratch_im_len: usize) -> SeenServed;
@@ -301,6 +338,7 @@ unsafe extern "C" {
     fn naribhush_carry_emulated(run: *const u8, len: usize, pauli: ActivePauli, out: *mut u8, out_len: usize) -> Seen<ActivePauli>;
     fn naribhush_seek_emulated(run: *const u8, len: usize, end: ActivePauli) -> Seen<ActivePauli>;
     fn naribhush_fold_emulated(run: *const u8, len: usize, out: *mut u8, out_len: usize) -> SeenFolding;
+    fn naribhush_report_emulated(run: *const u8, len: usize, pauli: ActivePauli, number: usize) -> SeenReport;
     fn naribhush_serve_emulated(ledger: Ledger, run: *const u8, len: usize, re: *mut f64, re_len: usize, im: *mut f64, im_len: usize, scratch_re: *mut f64, scratch_re_len: usize, scratch_im: *mut f64, scratch_im_len: usize) -> SeenServed;
 }
 
@@ -604,6 +642,19 @@ pub fn fold_run(run: &[u8], out: &mut [u8]) -> Answer<Folding> {
     unsafe { naribhush_fold(run.as_ptr(), run.len(), out.as_mut_ptr(), out.len()) }.answer()
 }
 
+/// What is reported of the step of this number, from 0.
+pub fn report_step(run: &[u8], pauli: ActivePauli, number: usize) -> Answer<Report> {
+    unsafe { naribhush_report(run.as_ptr(), run.len(), pauli, number) }.answer()
+}
+
+/// A line for each step and for the end, to the start of `out`.
+pub fn list_steps(run: &[u8], pauli: ActivePauli, out: &mut [u8]) -> Answer<usize> {
+    let seen = unsafe {
+        naribhush_list_steps(run.as_ptr(), run.len(), pauli, out.as_mut_ptr(), out.len())
+    };
+    seen.answer()
+}
+
 /// The Pauli past one step.
 pub fn past(pauli: ActivePauli, step: GivenStep) -> Answer<Past> {
     unsafe { naribhush_past(pauli, step) }.answer()
@@ -694,6 +745,10 @@ pub fn fold_emulated(run: &[u8], out: &mut [u8]) -> Answer<Folding> {
     let seen =
         unsafe { naribhush_fold_emulated(run.as_ptr(), run.len(), out.as_mut_ptr(), out.len()) };
     seen.answer()
+}
+
+pub fn report_emulated(run: &[u8], pauli: ActivePauli, number: usize) -> Answer<Report> {
+    unsafe { naribhush_report_emulated(run.as_ptr(), run.len(), pauli, number) }.answer()
 }
 
 /// The run's answer, and the ledger behind it, which counts none of these.

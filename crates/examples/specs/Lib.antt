@@ -6,5 +6,6 @@ pub mod Emulator
 pub mod TwoCorrections
 pub mod StartForEnd
 pub mod WithoutCorrections
+pub mod StepReports
 pub mod TwoListings
 pub mod Seven

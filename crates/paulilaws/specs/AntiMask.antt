@@ -5,12 +5,12 @@ use native.Mathlib.Nat.{mod-eq-of-lt}
 use native.Mathlib.Omega.{arith}
 use lib.Bits.{bitAnd, bitXor, and-mask, and-le-l}
 use lib.Count.{ones}
-use Rattle.bitlaws.specs.Digit.{digit, digit-lt, by-digit}
+use Rattle.bitlaws.specs.Digit.{digit, put, digit-lt, by-digit}
 use Rattle.bitlaws.specs.Bitwise.{digit-xor, digit-and}
 use Rattle.bitlaws.specs.Parity.{parity, overlap, overlap-xor-l}
 use Rattle.bitlaws.specs.Xor.{xor-lt}
-use Rattle.paulilaws.specs.Pauli.{Pauli, anti}
-use Rattle.paulilaws.specs.Letter.{Letter, xPart, zPart, letterOf, letterAt}
+use Rattle.paulilaws.specs.Pauli.{Pauli, identity, anti}
+use Rattle.paulilaws.specs.Letter.{Letter, xPart, zPart, letterOf, letterAt, withLetter}
 use Rattle.paulilaws.specs.Letter.Letter.{I, X, Z, Y}
 
 unfoldable pub antiMask : Pauli → Pauli → ℕ
@@ -34,7 +34,7 @@ lettersAnti Y Y = 0
 
 -- a letter as a Pauli on one qubit
 unfoldable pub alone : Letter → Pauli
-alone l = record { n = 1; k = 0; x = xPart l; z = zPart l }
+alone l = withLetter 0 l (identity 1)
 
 pub record AntiMask (Q P : Pauli) (mask : ℕ) : Type 0 where
   -- a qubit is in the mask exactly where its two letters anticommute: by the letters' table,
@@ -47,7 +47,7 @@ pub record AntiMask (Q P : Pauli) (mask : ℕ) : Type 0 where
 -- ---- one qubit
 
 letters-alone : (a b : Letter) → lettersAnti a b ≡ anti (alone a) (alone b)
-unfolding anti alone overlap parity ones
+unfolding anti alone withLetter put overlap parity ones
 letters-alone I I = refl
 letters-alone I X = refl
 letters-alone I Z = refl

@@ -1,1 +1,4 @@
 pub mod Showing
+pub mod Underway
+pub mod Answered
+pub mod Asking

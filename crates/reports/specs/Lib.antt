@@ -1,6 +1,16 @@
 pub mod Text
 pub mod Narrow
+pub mod NarrowRun
 pub mod Stored
 pub mod Lengths
 pub mod Input
 pub mod Found
+pub mod Put
+pub mod Listing
+pub mod Examples
+pub mod EachLine
+pub mod Narrowed
+pub mod Places
+pub mod Most
+pub mod Readme
+pub mod ReadBack

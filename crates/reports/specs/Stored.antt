@@ -1,10 +1,11 @@
 -- A text put into a buffer at a place, and one behind another.
-use mathlib.Core.Path.{_≡_, refl, ap, _∙_}
+use mathlib.Core.Path.{_≡_, refl, sym, ap, ap₂, _∙_}
 use mathlib.Core.List.{List, [], _++_}
-use Prim.Native.Nat.{ℕ, _+_}
+use Prim.Native.Nat.{ℕ, _+_, _≤_}
+use native.Mathlib.Nat.{zero-add}
 use native.Mathlib.Omega.{arith}
-use lib.ListN.{length, length-append}
-use lib.Seq.{sets, length-sets}
+use lib.ListN.{length, take, drop, length-append}
+use lib.Seq.{sets, sets-eq, length-sets, take-at, take-length}
 use Rattle.lines.specs.Pieces.{sets-next}
 
 -- `new` is `old` with the text from `at` up to `end`
@@ -24,3 +25,13 @@ module _ {s : List ℕ} {at end : ℕ} {old new : List ℕ} (p : Stored s at old
     ends = omega (arith, p .ends, q .ends, length-append s t);
     stands = sets-next old at end s t new left (p .stands) (p .ends) (q .stands);
   }
+
+  -- a text that was made at the start of a buffer
+  pub stored-made : at ≡ 0 → length s ≤ length old → take end new ≡ s
+  stored-made first h =
+      ap₂ take (p .ends ∙ ap (λ (n : ℕ). n + length s) first ∙ zero-add (length s)) (p .stands ∙ ap (λ (n : ℕ). sets old n s) first ∙ sets-eq s old 0 (omega (arith, h)))
+      ∙ take-at s (drop (0 + length s) old) (length s) refl
+
+-- a text that is copied to the start of a buffer
+pub copied-all : (s old : List ℕ) → length s ≤ length old → take (length s) s ++ drop (length s) old ≡ sets old 0 s
+copied-all s old h = ap₂ _++_ (take-length s) (ap (λ (n : ℕ). drop n old) (sym (zero-add (length s)))) ∙ sym (sets-eq s old 0 (omega (arith, h)))

@@ -74,7 +74,7 @@ fn with_output(call: u8, run: &[u8], words: [u64; 12], word: u64) {
         show::unread();
         return;
     }
-    let mut space = crate::room(0xee);
+    let mut space = run_text::room(0xee);
     if (call == b'y') | (call == b'Y') {
         carry_to(
             run,

@@ -6,6 +6,7 @@ use activepauli::ActivePauli;
 use callers::Caller;
 use carrier::CarryAnswer;
 use pauli_calls::show;
+use run_text::line;
 use runner::RunAnswer;
 ghost use Prim.Native.Nat.{_≤_};
 
@@ -15,7 +16,7 @@ pub(crate) fn carried(run: &[u8], pauli: ActivePauli, re: &[f64], im: &[f64], ca
         show::unread();
         return;
     }
-    let mut space = crate::room(0);
+    let mut space = run_text::room(0);
     carried_to(run, pauli, &mut space[0..n], re, im, caller);
 }
 
@@ -30,7 +31,7 @@ fn carried_to(
     match ask::carry_for(run, pauli, out, caller) {
         CarryAnswer::Carried(end) => sides(run, pauli, out, end, re, im, caller),
         CarryAnswer::Refused(row) => show::refused(row),
-        CarryAnswer::RefusedAt(row, at) => write::refused_at(row, at),
+        CarryAnswer::RefusedAt(row, at) => line::refused_at(row, at),
     }
 }
 

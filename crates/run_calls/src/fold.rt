@@ -7,6 +7,7 @@ use activepauli::ActivePauli;
 use callers::Caller;
 use folder::FoldAnswer;
 use pauli_calls::show;
+use run_text::line;
 
 pub(crate) fn into(run: &[u8], out: &mut [u8], caller: Caller) {
     match fold_for(run, out, caller) {
@@ -16,7 +17,7 @@ pub(crate) fn into(run: &[u8], out: &mut [u8], caller: Caller) {
             write::tail(out);
         }
         FoldAnswer::RefusedAt(row, at) => {
-            write::refused_at(row, at);
+            line::refused_at(row, at);
             write::tail(out);
         }
     }
@@ -49,7 +50,7 @@ fn again(run: &[u8], width: usize, caller: Caller) -> bool {
     if 66000 < n {
         return false;
     }
-    let mut space = crate::room(0xee);
+    let mut space = run_text::room(0xee);
     given_back(run, width, &mut space[0..n], caller)
 }
 
@@ -70,7 +71,7 @@ fn identity(width: usize) -> ActivePauli {
 }
 
 pub(crate) fn equal(run: &[u8], re: &[f64], im: &[f64], caller: Caller) {
-    let mut out = crate::room(0xee);
+    let mut out = run_text::room(0xee);
     equal_by(run, &mut out, re, im, caller);
 }
 
@@ -78,7 +79,7 @@ fn equal_by(run: &[u8], out: &mut [u8], re: &[f64], im: &[f64], caller: Caller) 
     match fold_for(run, out, caller) {
         FoldAnswer::Folded(end, size) => sides(run, end, size, out, re, im, caller),
         FoldAnswer::Refused(row) => show::refused(row),
-        FoldAnswer::RefusedAt(row, at) => write::refused_at(row, at),
+        FoldAnswer::RefusedAt(row, at) => line::refused_at(row, at),
     }
 }
 

@@ -1,7 +1,7 @@
 // Calls of fields, reader, checker, runner, passing, carrier, seeker, folder, correction and listing in text: each line
 // asks one, and its whole answer is written as a line, with every lent buffer as it is after the call. A line is the
-// call's name, a run (text::run), numbers and buffers (kernel_calls::read). The calls are listed in text::arity; `#` is a
-// comment.
+// call's name, a run (run_text::run), numbers and buffers (kernel_calls::read). The calls are listed in text::arity; `#`
+// is a comment.
 mod ask;
 mod both;
 mod fold;
@@ -14,15 +14,6 @@ mod write;
 use kernel_calls::read;
 use libc::STDOUT_FILENO;
 use pauli_calls::show;
-ghost use mathlib.Core.Path.{_≡_};
-ghost use lib.ListN.{length};
-
-// Room for a run, filled with a byte: more than the 65,536 bytes that a run may have.
-fn room(byte: u8) -> [u8; 66000]
-    ensures { λ r. ⌜ 66000 ≡ length r ⌝ }
-{
-    [byte; 66000]
-}
 
 fn answer(line: &[u8]) {
     if line.len() == 0 {
@@ -43,8 +34,8 @@ fn with_run(call: u8, text: &[u8]) {
         return;
     }
     let end = bytes::scan::find(text, 1, text.len(), b' ');
-    let mut space = room(0);
-    let n = text::run(&text[1..end], &mut space);
+    let mut space = run_text::room(0);
+    let n = run_text::run(&text[1..end], &mut space);
     if 66000 < n {
         show::unread();
         return;

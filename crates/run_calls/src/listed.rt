@@ -7,6 +7,7 @@ use activepauli::ActivePauli;
 use carrier::CarryAnswer;
 use pauli_calls::show;
 use paulitext::TextAnswer;
+use run_text::line;
 ghost use mathlib.Core.Path.{_≡_};
 ghost use Prim.Native.Nat.{_≤_};
 ghost use lib.ListN.{length};
@@ -27,7 +28,7 @@ fn text_room() -> [u8; TEXT_BYTES]
 }
 
 pub(crate) fn both(run: &[u8], pauli: ActivePauli) {
-    let mut out = crate::room(0xee);
+    let mut out = run_text::room(0xee);
     carried_to(run, pauli, &mut out);
 }
 
@@ -35,7 +36,7 @@ fn carried_to(run: &[u8], pauli: ActivePauli, out: &mut [u8]) {
     match carrier::carry_run(run, pauli, out) {
         CarryAnswer::Carried(end) => first(run, pauli, out, end),
         CarryAnswer::Refused(row) => show::refused(row),
-        CarryAnswer::RefusedAt(row, at) => write::refused_at(row, at),
+        CarryAnswer::RefusedAt(row, at) => line::refused_at(row, at),
     }
 }
 
@@ -73,16 +74,16 @@ fn second(left: &[u8], carried: &[u8], end: ActivePauli) {
 }
 
 fn against(left: &[u8], right: &[u8]) {
-    shown(left);
+    line::shown(left);
     write::bar();
-    shown(right);
+    line::shown(right);
     write::bar();
     write::verdict(if merge::same(left, right) { 0 } else { 2 });
 }
 
 // Lists the run with the Pauli as a correction at `at`: the text's length, or usize::MAX where there is no such file.
 fn listed(run: &[u8], at: usize, pauli: ActivePauli, text: &mut [u8]) -> usize {
-    let mut file = crate::room(0);
+    let mut file = run_text::room(0);
     let size = corrected(run, at, field(pauli), &mut file);
     if 66000 < size {
         return usize::MAX;
@@ -134,28 +135,4 @@ fn put(word: u64, at: usize, field: &mut [u8; CORRECTION_BYTES])
         left /= 256;
         i += 1;
     }
-}
-
-// A listing's length, and the listing on one line, or where it has more than 400 bytes a digest of it.
-fn shown(text: &[u8]) {
-    show::number(text.len() as u64);
-    if 400 < text.len() {
-        write::summed(text);
-        return;
-    }
-    show::byte(b' ');
-    on_one_line(text);
-}
-
-fn on_one_line(text: &[u8]) {
-    let mut i = 0;
-    while i < text.len() {
-        show::byte(in_line(text[i]));
-        i += 1;
-    }
-}
-
-// A newline ends the answer, so it is written as a slash, which no listing has.
-fn in_line(byte: u8) -> u8 {
-    if byte == b'\n' { b'/' } else { byte }
 }

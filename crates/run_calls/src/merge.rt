@@ -13,7 +13,7 @@ ghost use mathlib.Core.Logic.{_↔_};
 ghost use Rattle.activepauli.specs.Active.{activeOf};
 
 pub(crate) fn merged(run: &[u8], b: ActivePauli, a: ActivePauli, caller: Caller) {
-    let mut out = crate::room(0xee);
+    let mut out = run_text::room(0xee);
     first(run, b, a, &mut out, caller);
 }
 
@@ -26,7 +26,7 @@ fn first(run: &[u8], b: ActivePauli, a: ActivePauli, out: &mut [u8], caller: Cal
         return;
     }
     write::bar();
-    let mut next = crate::room(0xee);
+    let mut next = run_text::room(0xee);
     second(run, &out[0..n], b, a, end, &mut next, caller);
 }
 
@@ -44,7 +44,7 @@ fn second(
         return;
     };
     write::bar();
-    let mut next = crate::room(0xee);
+    let mut next = run_text::room(0xee);
     at_once(run, b.mul(a), out, end.mul(last), &mut next, caller);
 }
 

@@ -7,13 +7,14 @@ use activepauli::ActivePauli;
 use callers::Caller;
 use carrier::CarryAnswer;
 use pauli_calls::show;
+use run_text::line;
 use seeker::SeekAnswer;
 
 pub(crate) fn sought(run: &[u8], end: ActivePauli, caller: Caller) {
     match seek_for(run, end, caller) {
         SeekAnswer::Start(start) => found(run, start, end, caller),
         SeekAnswer::Refused(row) => show::refused(row),
-        SeekAnswer::RefusedAt(row, at) => write::refused_at(row, at),
+        SeekAnswer::RefusedAt(row, at) => line::refused_at(row, at),
     }
 }
 
@@ -27,7 +28,7 @@ fn seek_for(run: &[u8], end: ActivePauli, caller: Caller) -> SeekAnswer {
 fn found(run: &[u8], start: ActivePauli, end: ActivePauli, caller: Caller) {
     write::found(start.nqubits);
     write::bar();
-    let mut out = crate::room(0xee);
+    let mut out = run_text::room(0xee);
     judged(ask::carry_for(run, start, &mut out, caller), end);
 }
 

@@ -9,17 +9,12 @@ use kernel_calls::write;
 use libc::STDOUT_FILENO;
 use passing::PassAnswer;
 use pauli_calls::show;
+use run_text::line;
 use runner::RunAnswer;
 use steps::Cursor;
 use steps::Read;
 use steps::Step;
 ghost use Prim.Native.Nat.{_≤_};
-
-pub(crate) fn refused_at(row: u8, at: usize) {
-    show::refused(row);
-    io::write_all(STDOUT_FILENO, b" at");
-    write::number(at as u64);
-}
 
 fn word(name: &[u8]) {
     io::write_all(STDOUT_FILENO, name);
@@ -42,7 +37,7 @@ pub(crate) fn field(run: &[u8], at: usize) {
             show::number(tag as u64);
             write::number(next as u64);
         }
-        FieldAnswer::Refused(row, at) => refused_at(row, at),
+        FieldAnswer::Refused(row, at) => line::refused_at(row, at),
     }
     hex(fields::body(run, at));
 }
@@ -124,7 +119,7 @@ pub(crate) fn read(answer: Read) {
             word(b"end");
             cursor(next);
         }
-        Read::Refused(row, at) => refused_at(row, at),
+        Read::Refused(row, at) => line::refused_at(row, at),
     }
 }
 
@@ -138,7 +133,7 @@ pub(crate) fn check(answer: CheckAnswer) {
             write::number(survey.greatest as u64);
             write::number(survey.scratch as u64);
         }
-        CheckAnswer::Refused(row, at) => refused_at(row, at),
+        CheckAnswer::Refused(row, at) => line::refused_at(row, at),
     }
 }
 
@@ -150,7 +145,7 @@ pub(crate) fn ran(answer: RunAnswer) {
             write::number(steps as u64);
         }
         RunAnswer::Refused(row) => show::refused(row),
-        RunAnswer::RefusedAt(row, at) => refused_at(row, at),
+        RunAnswer::RefusedAt(row, at) => line::refused_at(row, at),
     }
 }
 
@@ -199,7 +194,7 @@ pub(crate) fn carried(answer: CarryAnswer) -> bool {
             return false;
         }
         CarryAnswer::RefusedAt(row, at) => {
-            refused_at(row, at);
+            line::refused_at(row, at);
             return false;
         }
     }
@@ -268,30 +263,7 @@ fn folded_run(bytes: &[u8]) {
         hex(bytes);
         return;
     }
-    summed(bytes);
-}
-
-pub(crate) fn summed(bytes: &[u8]) {
-    show::byte(b' ');
-    io::print_hex(STDOUT_FILENO, digest(bytes), 16);
-}
-
-// From FNV's offset basis, byte by byte. A byte that is changed always changes it: no step takes two values to one.
-fn digest(bytes: &[u8]) -> u64 {
-    let mut value = 0xcbf29ce484222325;
-    let mut i = 0;
-    while i < bytes.len() {
-        value = digested(value, number::wide(bytes[i]));
-        i += 1;
-    }
-    value
-}
-
-// The byte xored in, times 2^40 + 2^8 + 1.
-fn digested(value: u64, byte: u64) -> u64 {
-    let mixed = value ^ byte;
-    let low = std::num::wrapping_add_u64(mixed << 8, mixed);
-    std::num::wrapping_add_u64(mixed << 40, low)
+    line::summed(bytes);
 }
 
 // For each basis the amplitudes of both sides; then how they compare: `same`, `nan` where they are alike but

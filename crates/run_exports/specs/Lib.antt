@@ -4,3 +4,4 @@ pub mod Folding
 pub mod Reading
 pub mod Flags
 pub mod Past
+pub mod Report

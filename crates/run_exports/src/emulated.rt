@@ -1,10 +1,11 @@
-// Reading, checking, running, carrying, seeking, folding and serving for the emulator, a board of six qubits: a start over
+// Reading, checking, running, carrying, seeking, folding, reporting and serving for the emulator, a board of six qubits: a start over
 // six, or a promotion at six, is refused by 21.
 // The service's ledger counts none of its runs, and is handed back as it was.
 use crate::seen;
 use crate::seen::SeenEnding;
 use crate::seen::SeenFolding;
 use crate::seen::SeenRead;
+use crate::seen::SeenReport;
 use crate::seen::SeenServed;
 use crate::seen::SeenSurvey;
 use activepauli::ActivePauli;
@@ -17,15 +18,17 @@ ghost use Rattle.paulilaws.specs.Pauli.{identity};
 ghost use Rattle.amplitudelaws.specs.Lent.{memory};
 ghost use Rattle.framelaws.specs.Caller.{emulator};
 ghost use Rattle.runlaws.specs.Reading.{readAt};
-ghost use Rattle.runlaws.specs.Calls.{checking, running, carrying, seeking, folding};
+ghost use Rattle.runlaws.specs.Calls.{checking, running, carrying, seeking, folding, reporting};
+ghost use Rattle.runlaws.specs.Run.{mapped};
 ghost use Rattle.runlaws.specs.Ledger as history;
 ghost use Rattle.activepauli.specs.Active.{activeOf};
 ghost use Rattle.checker.specs.Meaning.{surveyFieldsOf};
 ghost use Rattle.ledger.specs.Meaning.{ledgerOf};
 ghost use Rattle.verdicts.specs.Verdict.{Seen};
-ghost use Rattle.run_exports.specs.Nothing.{noSurvey, noEnding, noFolding};
+ghost use Rattle.run_exports.specs.Nothing.{noSurvey, noEnding, noFolding, noReport};
 ghost use Rattle.run_exports.specs.Ending.{seenEndingOf};
 ghost use Rattle.run_exports.specs.Folding.{seenFoldingOf};
+ghost use Rattle.run_exports.specs.Report.{reportSeen, seenReportOf};
 ghost use Rattle.run_exports.specs.Reading.{readSeen, seenReadOf};
 
 #[no_mangle]
@@ -84,6 +87,18 @@ pub extern "C" fn naribhush_fold_emulated(run: &[u8], out: &mut [u8]) -> SeenFol
         ⌜ Seen (r .verdict) (seenFoldingOf r) noFolding (did .answer) × (now (out .exit) ≡ did .lent) ⌝ }
 {
     seen::folded(folder::fold_emulated(run, out))
+}
+
+#[no_mangle]
+pub extern "C" fn naribhush_report_emulated(
+    run: &[u8],
+    pauli: ActivePauli,
+    number: usize,
+) -> SeenReport
+    ensures { λ r. let told = reporting emulator (now (run .entry)) (activeOf pauli) number in
+        ⌜ Seen (r .verdict) (seenReportOf r) noReport (mapped reportSeen told) ⌝ }
+{
+    seen::reported(reporter::report_emulated(run, pauli, number))
 }
 
 #[no_mangle]

@@ -17,6 +17,7 @@ use ledger::Ledger;
 use seen::SeenEnding;
 use seen::SeenFolding;
 use seen::SeenRead;
+use seen::SeenReport;
 use seen::SeenServed;
 use seen::SeenSurvey;
 use steps::Cursor;
@@ -26,17 +27,20 @@ ghost use Rattle.paulilaws.specs.Pauli.{identity};
 ghost use Rattle.amplitudelaws.specs.Lent.{memory};
 ghost use Rattle.framelaws.specs.Caller.{service, serviceWithin};
 ghost use Rattle.runlaws.specs.Reading.{readAt};
-ghost use Rattle.runlaws.specs.Calls.{checking, running, carrying, seeking, folding};
+ghost use Rattle.runlaws.specs.Calls.{checking, running, carrying, seeking, folding, reporting};
+ghost use Rattle.runlaws.specs.Run.{mapped};
 ghost use Rattle.runlaws.specs.Ledger as history;
 ghost use Rattle.activepauli.specs.Active.{activeOf};
 ghost use Rattle.checker.specs.Meaning.{surveyFieldsOf};
 ghost use Rattle.ledger.specs.Meaning.{ledgerOf};
 ghost use Rattle.lines.specs.Calls.{lineCall, lineLeft};
 ghost use Rattle.listing.specs.Listing.{listed};
+ghost use Rattle.reports.specs.Listing.{stepsListed};
 ghost use Rattle.verdicts.specs.Verdict.{Seen};
-ghost use Rattle.run_exports.specs.Nothing.{noSurvey, noEnding, noFolding};
+ghost use Rattle.run_exports.specs.Nothing.{noSurvey, noEnding, noFolding, noReport};
 ghost use Rattle.run_exports.specs.Ending.{seenEndingOf};
 ghost use Rattle.run_exports.specs.Folding.{seenFoldingOf};
+ghost use Rattle.run_exports.specs.Report.{reportSeen, seenReportOf};
 ghost use Rattle.run_exports.specs.Reading.{readSeen, seenReadOf};
 ghost use Rattle.run_exports.specs.Past.{givenCall, pastSeen, givenOf, pastOf};
 
@@ -105,6 +109,16 @@ pub extern "C" fn naribhush_fold(run: &[u8], out: &mut [u8]) -> SeenFolding
     seen::folded(folder::fold_run(run, out))
 }
 
+// Whether the sign or the branch of step `number`, from 0 at the first field behind start, is changed where the Pauli is
+// carried, and the qubits that are the cause; 20 where the run has no such step.
+#[no_mangle]
+pub extern "C" fn naribhush_report(run: &[u8], pauli: ActivePauli, number: usize) -> SeenReport
+    ensures { λ r. let told = reporting service (now (run .entry)) (activeOf pauli) number in
+        ⌜ Seen (r .verdict) (seenReportOf r) noReport (mapped reportSeen told) ⌝ }
+{
+    seen::reported(reporter::report_step(run, pauli, number))
+}
+
 // The Pauli past one step, which may be any: 3, 4 and 10 as carrying looks at them, 14 where no step has the tag or
 // a sign or a branch is over 1.
 #[no_mangle]
@@ -126,6 +140,16 @@ pub extern "C" fn naribhush_listing(run: &[u8], out: &mut [u8]) -> SeenNumber
         ⌜ Seen (r .verdict) (r .number) 0 (lineCall text old) × (now (out .exit) ≡ lineLeft text old) ⌝ }
 {
     seen::text(listing::list_run(run, out))
+}
+
+// A line for each step of a run that carries the Pauli, as the program `report` prints them.
+#[no_mangle]
+pub extern "C" fn naribhush_list_steps(run: &[u8], pauli: ActivePauli, out: &mut [u8]) -> SeenNumber
+    ensures { λ r. let text = stepsListed (now (run .entry)) (activeOf pauli) in
+        let old = now (out .entry) in
+        ⌜ Seen (r .verdict) (r .number) 0 (lineCall text old) × (now (out .exit) ≡ lineLeft text old) ⌝ }
+{
+    seen::text(reports::list_steps(run, pauli, out))
 }
 
 #[no_mangle]

@@ -7,6 +7,8 @@ use folder::FoldAnswer;
 use kernel_exports::seen::SeenActivePauli;
 use ledger::Ledger;
 use paulitext::TextAnswer;
+use reporter::Report;
+use reporter::ReportAnswer;
 use runner::RunAnswer;
 use seeker::SeekAnswer;
 use steps::Read;
@@ -22,11 +24,14 @@ ghost use Rattle.runner.specs.Meaning.{runAnswerOf};
 ghost use Rattle.carrier.specs.Meaning.{carryAnswerOf};
 ghost use Rattle.seeker.specs.Meaning.{seekAnswerOf};
 ghost use Rattle.folder.specs.Meaning.{foldAnswerOf};
+ghost use Rattle.reporter.specs.Meaning.{reportFieldsOf, reportAnswerOf};
+ghost use Rattle.runlaws.specs.Run.{mapped};
 ghost use Rattle.paulitext.specs.Calls.{textAnswerOf};
 ghost use Rattle.verdicts.specs.Verdict.{Seen};
-ghost use Rattle.run_exports.specs.Nothing.{noSurvey, noEnding, noFolding};
+ghost use Rattle.run_exports.specs.Nothing.{noSurvey, noEnding, noFolding, noReport};
 ghost use Rattle.run_exports.specs.Ending.{seenEndingOf};
 ghost use Rattle.run_exports.specs.Folding.{seenFoldingOf};
+ghost use Rattle.run_exports.specs.Report.{reportSeen, seenReportOf};
 ghost use Rattle.run_exports.specs.Reading.{stepSeen, pauliSeen, bareSeen, readSeen, seenFieldOf, seenReadOf};
 
 // Beside a refusal all numbers of the survey are 0.
@@ -50,6 +55,15 @@ pub struct SeenFolding {
     pub verdict: Verdict,
     pub end: ActivePauli,
     pub size: usize,
+}
+
+// By `kind`: 0 the step has no sign or branch, 1 it is kept, 2 it is changed. The mask is 0 beside no flag, and both are 0
+// beside a refusal.
+#[repr(C)]
+pub struct SeenReport {
+    pub verdict: Verdict,
+    pub kind: u8,
+    pub mask: u64,
 }
 
 // A run's answer, and the ledger behind it.
@@ -177,6 +191,36 @@ pub(crate) fn folded(answer: FoldAnswer) -> SeenFolding
         },
         FoldAnswer::Refused(row) => no_folding(verdicts::refused(row)),
         FoldAnswer::RefusedAt(row, at) => no_folding(verdicts::refused_at(row, at)),
+    }
+}
+
+// What is seen of a report beside a verdict.
+fn with_report(verdict: Verdict, report: Report) -> SeenReport
+    ensures { λ r. ⌜ (r .verdict ≡ verdict) × (seenReportOf r ≡ reportSeen (reportFieldsOf report)) ⌝ }
+{
+    match report {
+        Report::NoFlag => SeenReport {
+            verdict,
+            kind: 0,
+            mask: 0,
+        },
+        Report::Flagged(changed, mask) => SeenReport {
+            verdict,
+            kind: if changed { 2 } else { 1 },
+            mask,
+        },
+    }
+}
+
+pub(crate) fn reported(answer: ReportAnswer) -> SeenReport
+    ensures { λ r. ⌜ Seen (r .verdict) (seenReportOf r) noReport (mapped reportSeen (reportAnswerOf answer)) ⌝ }
+{
+    match answer {
+        ReportAnswer::Reported(report) => with_report(verdicts::accepted(), report),
+        ReportAnswer::Refused(row) => with_report(verdicts::refused(row), Report::NoFlag),
+        ReportAnswer::RefusedAt(row, at) => {
+            with_report(verdicts::refused_at(row, at), Report::NoFlag)
+        }
     }
 }
 

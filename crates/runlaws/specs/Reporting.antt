@@ -8,8 +8,9 @@ use lib.Dec.{eqb, ltb, lit<}
 use lib.Ieee.{Float}
 use lib.ListN.{length, drop, List·getD-append}
 use borrow.Author.Tests.{ltb-false, ne-eqb, le-ltb}
+use Rattle.answers.specs.Answer.{Answer}
 use Rattle.answers.specs.Answer.Answer.{accepted, refused, refusedAt}
-use Rattle.answers.specs.Row.{row, first, answered, row-passed, first-passed}
+use Rattle.answers.specs.Row.{row, first, answered, row-passed, first-passed, accepted-row, refused-accepted, refusedAt-accepted}
 use Rattle.bitlaws.specs.Digit.{bitOf, by-digit, mod-two}
 use Rattle.paulilaws.specs.Pauli.{Pauli, anti, fits}
 use Rattle.paulilaws.specs.AntiMask.{antiMask, anti-mask, mask-lt}
@@ -26,7 +27,7 @@ use Rattle.framelaws.specs.Rows.{stepRow, rotationStepRow, projectionStepRow}
 use Rattle.framelaws.specs.Suited.{placed-passed, placed-row}
 use Rattle.framelaws.specs.Surveyed.{survey-steps}
 use Rattle.runlaws.specs.Bytes.{byteAt}
-use Rattle.runlaws.specs.Calls.{CheckedRun, surveyOf, checkedRunOf, checkingWithStart, carryingRow, carriedRun, carrying, found, finding, reporting}
+use Rattle.runlaws.specs.Calls.{CheckedRun, surveyOf, checkedRunOf, checkingWithStart, carryingRow, carriedRun, carrying, Frames, framesOf, onRun, ofRun, framing, found, finding, reporting}
 use Rattle.runlaws.specs.CutRun.{FieldOf, field-of}
 use Rattle.runlaws.specs.Fields.{step-read}
 use Rattle.runlaws.specs.Flagged.{carried-size}
@@ -37,7 +38,7 @@ use Rattle.runlaws.specs.Outcomes.{carrying-answers}
 use Rattle.runlaws.specs.Reread.{carried-length, reread}
 use Rattle.runlaws.specs.Run.{Run, mapped, runOf}
 use Rattle.runlaws.specs.WholeRun.{run-allowed}
-use Rattle.runlaws.specs.StepReports.{StepOf, SoFar, Flag, Reports, Told, SomeReport, StepReports}
+use Rattle.runlaws.specs.StepReports.{StepOf, Carried, SoFar, Flag, Reports, Told, SomeReport, StepReports}
 
 -- ---- a bit, and the bit that a Pauli leaves of it
 
@@ -184,6 +185,17 @@ module _ (caller : Caller) (s : List ℕ) (Q : Pauli) (i : ℕ) where
         reports = told caller s Q (k .run) (k .read) (k .placed) (w .before) (f .step) (w .after) (w .steps);
       })
 
+  finds : (f : Framed Float) → finding caller s Q i ≡ accepted f → Carried caller s Q i f
+  finds f e =
+      let k = finding-found caller s Q i f e in
+      let at = framed-at Q (k .run .steps) i f (k .is) in
+      let w = at .at in
+      let place : ℕ = 4 + fieldsSize (w .before) in
+      record {
+        number = step-of caller s Q (k .run) (k .read) (k .placed) (w .before) (f .step) (w .after) (w .steps) i (w .number);
+        so-far = subst (SoFar caller s Q place) (sym (at .frame)) (so-far caller s Q (k .run) (k .read) (k .placed) (w .before) (f .step) (w .after) (w .steps));
+      }
+
   tells : (r : Report) → reporting caller s Q i ≡ accepted r → Told caller s Q i r
   unfolding reporting
   tells r e =
@@ -232,6 +244,18 @@ module _ (caller : Caller) (s : List ℕ) (Q : Pauli) (i : ℕ) where
           let k = framed-some Q (from .value .steps) i (omega (arith, h, count-is)) in
           record { report = reportOf (k .framed); answered = rw (finding-is caller s Q i (from .value) (from .was) on-start, k .is) }
 
+ends : (caller : Caller) (s : List ℕ) (Q : Pauli) (F : Frames) → framing caller s Q ≡ accepted F
+    → (out : List ℕ) → length s ≤ length out → carrying caller s Q out .answer ≡ accepted (F .last)
+unfolding framing ofRun onRun
+ends caller s Q F e out room = by (runOf caller s) refl e
+  where
+    by : (a : Answer Run) → runOf caller s ≡ a → ofRun a (λ R. answered (placedRow Q (R .width)) (framesOf Q R)) ≡ accepted F → carrying caller s Q out .answer ≡ accepted (F .last)
+    by (accepted R) read e =
+        let k = accepted-row (placedRow Q (R .width)) (framesOf Q R) F (sym e) in
+        rw (k .1) (carrying-answers caller s Q out R read (passes caller s Q R read (k .0) out room) .0)
+    by (refused n) read e = absurd (refused-accepted e)
+    by (refusedAt n at) read e = absurd (refusedAt-accepted e)
+
 -- TELL ME ABOUT STEP 40
 pub step-reports : (caller : Caller) → StepReports caller
 step-reports caller = record {
@@ -241,6 +265,8 @@ step-reports caller = record {
   four = misplaced caller;
   twenty = λ s Q i C checked fit start. no-step caller s Q i C checked fit start;
   each = λ s Q i C checked fit start. some-report caller s Q i C checked fit start;
+  finds = finds caller;
+  ends = ends caller;
 }
 
 -- and so of what report_step and carry_run promise to the service, and report_emulated and carry_emulated to the emulator

@@ -16,10 +16,10 @@ use Rattle.amplitudelaws.specs.Step.{Step}
 use Rattle.amplitudelaws.specs.Step.Step.{rotation, promotion, projection, correction, quarterTurn}
 use Rattle.framelaws.specs.Caller.{Caller}
 use Rattle.framelaws.specs.Reported.{StepAt}
-use Rattle.framelaws.specs.Reporting.{Report}
+use Rattle.framelaws.specs.Reporting.{Framed, Report}
 use Rattle.framelaws.specs.Reporting.Report.{noFlag, flagged}
 use Rattle.runlaws.specs.Bytes.{byteAt}
-use Rattle.runlaws.specs.Calls.{CheckedRun, checkingWithStart, carrying, reporting}
+use Rattle.runlaws.specs.Calls.{CheckedRun, Frames, checkingWithStart, carrying, framing, finding, reporting}
 use Rattle.runlaws.specs.Flags.{fieldsSize}
 use Rattle.runlaws.specs.Pieces.{endBytes}
 use Rattle.runlaws.specs.Reading.{Cursor, readAt}
@@ -80,6 +80,11 @@ pub record SomeReport (caller : Caller) (s : List ℕ) (Q : Pauli) (i : ℕ) : T
   pub report : Report
   pub answered : reporting caller s Q i ≡ accepted report
 
+-- a step that the call answers, and the frame beside it
+pub record Carried (caller : Caller) (s : List ℕ) (Q : Pauli) (i : ℕ) (f : Framed Float) : Type 0 where
+  pub number : StepOf caller s i (f .step)
+  pub so-far : SoFar caller s Q (number .place) (f .frame)
+
 -- ---- the theorem
 
 pub record StepReports (caller : Caller) : Type 0 where
@@ -97,3 +102,7 @@ pub record StepReports (caller : Caller) : Type 0 where
   -- and of every other there is a report.
   pub each : (s : List ℕ) (Q : Pauli) (i : ℕ) (C : CheckedRun) → checkingWithStart caller s ≡ accepted C → fits Q ≡ true → Q .n ≡ C .start
       → i < C .survey .steps → SomeReport caller s Q i
+  -- What is found is the step of that number, and the frame beside it is the Pauli carried so far; the frame behind the last step is the end Pauli of carrying.
+  pub finds : (s : List ℕ) (Q : Pauli) (i : ℕ) (f : Framed Float) → finding caller s Q i ≡ accepted f → Carried caller s Q i f
+  pub ends : (s : List ℕ) (Q : Pauli) (F : Frames) → framing caller s Q ≡ accepted F
+      → (out : List ℕ) → length s ≤ length out → carrying caller s Q out .answer ≡ accepted (F .last)

@@ -1,7 +1,8 @@
 //! damage [CASES] [SEED] [heap]: every call with damaged or random input.
 //!
-//! A case offers bytes to each call that takes a run, those that carry a Pauli and those that seek a start with any numbers for the
-//! Pauli, those that fold with an output of any length, and makes each of the other calls once. Case i throws the dice of SEED + i.
+//! A case offers bytes to each call that takes a run, those that carry a Pauli, that seek a start and that report a step with any
+//! numbers for the Pauli and the step, those that fold and those that list with an output of any length, and makes each of the other
+//! calls once. Case i throws the dice of SEED + i.
 //! Ends with 1 if anything is wrong, or if some call never met one of its rows.
 
 use checks::case::{self, Arguments};
@@ -17,7 +18,7 @@ const CASES: u64 = 3_000_000;
 const SEED: u64 = 1;
 
 /// The rows that each call has, 0 where none refuses it.
-const WANTED: [(&str, &[u8]); 62] = [
+const WANTED: [(&str, &[u8]); 68] = [
     ("read", &[0, 3, 6, 7, 8, 9, 10, 11, 12, 14, 15]),
     ("read a quarter turn", &[0, 3, 6, 7, 14]),
     ("check_run", &[0, 3, 7, 8, 9, 10, 11, 12, 14, 15]),
@@ -32,6 +33,8 @@ const WANTED: [(&str, &[u8]); 62] = [
     ("seek, the call's own", &[3, 4, 25]),
     ("fold", &[0, 3, 7, 8, 9, 10, 11, 12, 14, 15]),
     ("fold, the call's own", &[16]),
+    ("report", &[0, 3, 7, 8, 9, 10, 11, 12, 14, 15]),
+    ("report, the call's own", &[3, 4, 20]),
     ("read_emulated", &[0, 3, 7, 8, 9, 10, 11, 12, 14, 21]),
     ("read_emulated, a quarter turn", &[0, 3, 7, 14]),
     ("check_emulated", &[0, 3, 7, 8, 9, 10, 11, 12, 14, 21]),
@@ -46,9 +49,13 @@ const WANTED: [(&str, &[u8]); 62] = [
     ("seek_emulated, the call's own", &[3, 4, 25]),
     ("fold_emulated", &[0, 3, 7, 8, 9, 10, 11, 12, 14, 21]),
     ("fold_emulated, the call's own", &[16]),
+    ("report_emulated", &[0, 3, 7, 8, 9, 10, 11, 12, 14, 21]),
+    ("report_emulated, the call's own", &[3, 4, 20]),
     ("past", &[0, 3, 4, 10, 14]),
     ("past a quarter turn", &[0, 3, 4]),
     ("listing", &[0, 16]),
+    ("list_steps", &[0, 16]),
+    ("list_steps, a refusal", &[0, 16]),
     ("insert_zero_bit", &[0, 5]),
     ("set_packed_bit", &[0, 14]),
     ("pauli_identity", &[0, 3]),

@@ -1,7 +1,8 @@
 //! frames [RUNS] [SEED] [heap]: demand 3 on random runs and on all single steps of few qubits, by the service's calls and,
 //! where the emulator takes the run, by its calls too; that the two callers leave the same state and carry alike; by each
-//! caller that takes the run, E11 with a second Pauli, E12 with ends that are named, and E2 with corrections put in; and, by the
-//! service's, E6: the listings of the run with the Pauli and of the carried run with its end.
+//! caller that takes the run, E11 with a second Pauli, E12 with ends that are named, and E2 with corrections put in; by the
+//! service's, E6: the listings of the run with the Pauli and of the carried run with its end; and, by both, E7: reports of some
+//! steps, with the service's list of all.
 //!
 //! Run i throws the dice of SEED + i. Ends with 1 if anything is wrong, or if something that the program is
 //! meant to see was never seen.
@@ -11,6 +12,7 @@ use checks::case::{self, Arguments};
 use checks::folding::{self, Folded, Original};
 use checks::lent::Lender;
 use checks::patterns::hex;
+use checks::reporting::{self, Questions};
 use checks::seeking::{self, Asked, Named};
 use checks::tally::{Findings, Tallies, Tally, unseen};
 use checks::totals::Amplitudes;
@@ -88,6 +90,14 @@ struct Files {
     wrong: Findings,
 }
 
+/// Of steps that are reported, by each caller, and listed, by the service.
+#[derive(Default)]
+struct Reports {
+    seen: Tallies,
+    lists: Tally,
+    wrong: Findings,
+}
+
 #[derive(Default)]
 struct All {
     service: Seen,
@@ -97,6 +107,7 @@ struct All {
     seeks: Seeks,
     folds: Folds,
     files: Files,
+    reports: Reports,
 }
 
 impl Seen {
@@ -348,6 +359,44 @@ impl Files {
     }
 }
 
+impl Reports {
+    /// With dice of its own: the other checks draw what they would draw without it.
+    fn try_one(&mut self, lender: &Lender, dice: &Dice, seed: u64, trial: &Trial) {
+        let mut dice = Dice(dice.0.rotate_left(16));
+        let asked = Questions::draw(&mut dice, &trial.run, trial.q);
+        self.ask(lender, &mut dice, seed, &asked);
+    }
+
+    fn ask(&mut self, lender: &Lender, dice: &mut Dice, seed: u64, asked: &Questions) {
+        match reporting::compare(lender, dice, asked) {
+            Ok(reported) => {
+                for (who, passed) in BOTH.into_iter().zip(&reported.passed) {
+                    reporting::count(self.seen.of(who), who, asked, passed);
+                }
+                reporting::count_list(&mut self.lists, &reported);
+            }
+            Err(what) => {
+                let what = format!("{what}; {}", asked.description());
+                self.wrong.note(seed, &what);
+            }
+        }
+    }
+
+    fn print(&self) {
+        println!("steps reported, by the service's calls and by the emulator's");
+        self.seen.print(&reporting::WANTED);
+        println!("steps listed, by the service's calls");
+        for name in reporting::LISTS {
+            println!("  {name:46} {:>9}", self.lists.count(name));
+        }
+    }
+
+    fn missing(&self) -> Vec<&'static str> {
+        let reports = self.seen.missing(&reporting::WANTED);
+        [reports, self.lists.missing(&reporting::LISTS)].concat()
+    }
+}
+
 /// Whether a run, which the service takes, is narrow enough for the caller.
 fn takes(who: Who, run: &Run) -> bool {
     run.survey().greatest <= who.caller().widest
@@ -380,12 +429,13 @@ impl All {
         self.seeks.print();
         self.folds.print();
         self.files.print();
+        self.reports.print();
     }
 
     fn wrong(&self) -> u64 {
         let callers = self.service.wrong.0 + self.emulator.wrong.0 + self.both.wrong.0;
         let steps = self.merges.wrong.0 + self.seeks.wrong.0 + self.folds.wrong.0;
-        callers + steps + self.files.wrong.0
+        callers + steps + self.files.wrong.0 + self.reports.wrong.0
     }
 
     fn missing(&self) -> Vec<&'static str> {
@@ -394,7 +444,11 @@ impl All {
         let both = self.both.missing();
         let [merges, seeks] = [self.merges.missing(), self.seeks.missing()];
         let [folds, files] = [self.folds.missing(), self.files.missing()];
-        [service, emulator, both, merges, seeks, folds, files].concat()
+        let reports = self.reports.missing();
+        [
+            service, emulator, both, merges, seeks, folds, files, reports,
+        ]
+        .concat()
     }
 }
 
@@ -484,6 +538,36 @@ fn all_longest_files(seen: &mut Files, lender: &Lender, seed: u64) -> u64 {
     count
 }
 
+/// Every Pauli and every single step at widths 0 to 2, reported and listed.
+fn all_reports_of_single_steps(seen: &mut Reports, lender: &Lender, seed: u64) -> u64 {
+    let mut dice = Dice(seed);
+    let mut count = 0;
+    for width in 0..=2 {
+        for q in paulis(width) {
+            for step in single_steps(&mut dice, width) {
+                let steps = vec![step];
+                let asked = Questions::of(&mut dice, &Run { width, steps }, q);
+                seen.ask(lender, &mut dice, seed, &asked);
+                count += 1;
+            }
+        }
+    }
+    count
+}
+
+/// Runs of about 65,536 bytes, reported and listed.
+fn all_longest_reports(seen: &mut Reports, lender: &Lender, seed: u64) -> u64 {
+    let mut dice = Dice(seed);
+    let mut count = 0;
+    for length in LONGEST - 2..=LONGEST {
+        let Pair { run, q } = Pair::of_length(&mut dice, length);
+        let asked = Questions::of(&mut dice, &run, q);
+        seen.ask(lender, &mut dice, seed, &asked);
+        count += 1;
+    }
+    count
+}
+
 fn main() -> ExitCode {
     let Arguments { count, seed, heap } = Arguments::read(RUNS, SEED);
     case::name_faults();
@@ -496,17 +580,21 @@ fn main() -> ExitCode {
     let fired = all_corrections_before_single_steps(&mut seen.folds, &lender, seed);
     let listed = all_files_of_single_steps(&mut seen.files, &lender, seed);
     let longest = all_longest_files(&mut seen.files, &lender, seed);
+    let reported = all_reports_of_single_steps(&mut seen.reports, &lender, seed);
+    let long = all_longest_reports(&mut seen.reports, &lender, seed);
     for seed in (0..count).map(|at| seed.wrapping_add(at)) {
         case::begin(seed);
         let mut dice = Dice(seed);
         let trial = random_trial(&mut dice);
         seen.try_one(&lender, &mut dice, seed, &trial);
         seen.files.try_one(&lender, &dice, seed, &trial);
+        seen.reports.try_one(&lender, &dice, seed, &trial);
     }
 
     println!(
         "{count} random runs from seed {seed}, {single} runs of a single step, {named} of one with every end named, \
-         {fired} folded of one behind a correction, and both files listed of {listed} of one and of {longest} of about 65,536 bytes"
+         {fired} folded of one behind a correction, both files listed of {listed} of one and of {longest} of about 65,536 bytes, \
+         and steps reported of {reported} of one and of {long} of about 65,536 bytes"
     );
     seen.print();
     let missing = seen.missing();

@@ -1,12 +1,10 @@
 -- `wide`: the words above the first are 0.
-use mathlib.Core.Path.{_≡_, sym, ap₂}
+use mathlib.Core.Path.{_≡_, ap₂}
 use mathlib.Core.List.{[], _∷_}
 use Prim.Native.Nat.{ℕ}
 use native.Mathlib.Omega.{arith}
-use Rattle.activepauli.specs.Active.{activeOf}
 use Rattle.bitlaws.specs.Words.{words}
 use Rattle.masks.specs.Mask.{mask}
-use Rattle.paulilaws.specs.Pauli.{Pauli}
 use Rattle.reports.proofs.pieces.wide.Statement.{statement}
 use Rattle.reports.proofs.pieces.wide.Tie as tie
 

@@ -241,7 +241,10 @@ def pauli_read(text):
 
 def number_read(digits):
     """Decimal digits, one or more, any length. None for what is no number, which is in no run."""
-    return int(digits) if digits and all(48 <= byte <= 57 for byte in digits) else None
+    if not digits or not all(48 <= byte <= 57 for byte in digits):
+        return None
+    # Python reads at most 4,300 digits at once; leading zeros do not count.
+    return int(digits.lstrip(b"0")[:4300] or b"0")
 
 
 def list_report(given):

@@ -3,6 +3,7 @@
 // Pauli first and refuses by 3 what is none; then by 4 or 5 of the scope's table.
 //
 // The promises are the first layer's own definitions: what `product` or `anti` means there, it means here.
+#![tactic(auto)]
 ghost use Rattle.std.specs.Prelude.{◌≡◌, ◌<◌};
 ghost use Rattle.bitlaws.specs.Opening.{drop_bit};
 ghost use Rattle.bitlaws.specs.Parity.{overlap};
@@ -13,7 +14,7 @@ ghost use Rattle.activepauli.specs.Active.{active_of, active_pauli_answer_of, ac
 ghost use Rattle.activepauli.specs.Calls.{raised_call, dropped_call};
 
 #[repr(C)]
-#[derive(Drop)]
+#[derive(Clone, Copy)]
 pub struct ActivePauli {
     pub nqubits: usize,
     pub x: u64,
@@ -21,13 +22,13 @@ pub struct ActivePauli {
     pub phase: u8,
 }
 
-#[derive(Drop)]
+#[derive(Clone, Copy)]
 pub enum ActivePauliAnswer {
     Pauli(ActivePauli),
     Refused(u8),
 }
 
-#[derive(Drop)]
+#[derive(Clone, Copy)]
 pub enum ActiveBitAnswer {
     Bit(bool),
     Refused(u8),

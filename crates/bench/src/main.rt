@@ -1,4 +1,5 @@
 // Reads one run from standard input, and writes its listing to standard output.
+#![tactic(auto)]
 use libc::{STDIN_FILENO, STDOUT_FILENO};
 use paulitext::TextAnswer;
 

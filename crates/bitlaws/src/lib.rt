@@ -1,1 +1,2 @@
 // Laws of masks over any width, for other crates to cite: see specs/. There is no code here.
+#![tactic(auto)]

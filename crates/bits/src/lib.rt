@@ -1,5 +1,6 @@
 // Bits of one word (bits.rs, and insert_zero_bit of active.rs): the parity of a word, its highest bit, and
 // a zero bit opened in a basis index.
+#![tactic(auto)]
 ghost use Rattle.std.specs.Prelude.{◌≡◌, eqb, ◌+◌, ◌%◌};
 ghost use Rattle.bitlaws.specs.Digit.{bit_of, digit};
 ghost use Rattle.bitlaws.specs.Highest.{highest};
@@ -8,14 +9,14 @@ ghost use Rattle.bits.specs.Highest.{highest_bit_of};
 ghost use Rattle.bits.specs.Opening.{opened_of, opening};
 
 // What opening a bit answers: the wider index, or the refusal's number.
-#[derive(Drop)]
+#[derive(Clone, Copy)]
 pub enum Opened {
     Index(usize),
     Refused(u8),
 }
 
 // Where a word's highest set bit stands; `Empty` where none is set.
-#[derive(Drop)]
+#[derive(Clone, Copy)]
 pub enum HighestBit {
     Bit(usize),
     Empty,

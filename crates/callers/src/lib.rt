@@ -1,5 +1,6 @@
 // Who calls for a run: how wide its states may be, and by which rows of the table a wider one is refused. A caller
 // is one of two, so that no other rows can be asked for.
+#![tactic(auto)]
 ghost use Rattle.std.specs.Prelude.{◌≡◌};
 ghost use Rattle.framelaws.specs.Caller as frame;
 ghost use Rattle.callers.specs.Meaning.{caller_of};
@@ -19,7 +20,7 @@ const EMULATED_START_ROW: u8 = 21;
 const EMULATED_PROMOTION_ROW: u8 = 21;
 
 // The service's rows hold under any limit on the width; its own is `service`'s.
-#[derive(Drop)]
+#[derive(Clone, Copy)]
 pub enum Caller {
     Service(usize),
     Emulator,

@@ -1,6 +1,7 @@
 // Carrying: a Pauli noted before a run is taken past each of its steps instead of being fired. The run
 // is written to a lent output with its signs and branches altered to suit, and the Pauli that is left at the
 // end is answered.
+#![tactic(auto)]
 ghost use Rattle.std.specs.Prelude.{◌≡◌};
 ghost use Rattle.activepauli.specs.Active.{active_of};
 ghost use Rattle.framelaws.specs.Caller.{service, emulator};
@@ -18,7 +19,7 @@ use passing::PassAnswer;
 use steps::{Cursor, Read};
 
 // The end Pauli; or the run's own refusal with its place, or 3, 4 or 16.
-#[derive(Drop)]
+#[derive(Clone, Copy)]
 pub enum CarryAnswer {
     Carried(ActivePauli),
     Refused(u8),

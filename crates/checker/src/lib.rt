@@ -2,6 +2,7 @@
 // width, the number of steps (the fields between start and end), the greatest width, and how many
 // amplitudes the largest state has that a projection with an X part leaves; or the first refusal, in
 // file order, with its place.
+#![tactic(auto)]
 ghost use Rattle.std.specs.Prelude.{◌≡◌, ◌≤◌, max, length};
 ghost use Rattle.framelaws.specs.Caller.{service, service_within, emulator};
 ghost use Rattle.framelaws.specs.Survey.{survey, mixed_amplitudes};
@@ -19,7 +20,7 @@ use fields::StartAnswer;
 use steps::{Cursor, Read, Step};
 
 #[repr(C)]
-#[derive(Drop)]
+#[derive(Clone, Copy)]
 pub struct Survey {
     pub width: usize,
     pub steps: usize,
@@ -27,14 +28,14 @@ pub struct Survey {
     pub scratch: usize,
 }
 
-#[derive(Drop)]
+#[derive(Clone, Copy)]
 pub enum CheckAnswer {
     Run(Survey),
     Refused(u8, usize),
 }
 
 // The width that a run starts at, and its survey.
-#[derive(Drop)]
+#[derive(Clone, Copy)]
 pub enum Checked {
     Run(usize, Survey),
     Refused(u8, usize),

@@ -1,5 +1,6 @@
 // Pairs of floats: the coefficients m and w of the kernels, and the amplitudes. Each operation is
 // rounded by itself, in the order of the formulas; nothing is fused.
+#![tactic(auto)]
 ghost use Rattle.std.specs.Prelude.{◌≡◌, ◌%◌};
 ghost use Rattle.bitlaws.specs.Digit.{bit_of};
 ghost use Rattle.amplitudelaws.specs.Arithmetic as formula;
@@ -8,7 +9,7 @@ ghost use Rattle.complex.specs.Complex.{complex_of};
 
 // re + i im.
 #[repr(C)]
-#[derive(Drop)]
+#[derive(Clone, Copy)]
 pub struct Complex64 {
     pub re: f64,
     pub im: f64,

@@ -1,5 +1,6 @@
 // Fields of a run. A field is one byte of tag, two bytes of the body's length, the body, little-endian.
 // Each call answers for any bytes and any place.
+#![tactic(auto)]
 pub mod number;
 
 ghost use Rattle.std.specs.Prelude.{◌≡◌};
@@ -19,13 +20,13 @@ pub const START_BYTES: usize = 4;
 
 // A field by its tag and the place of the next field's tag. Its body is handed out by `body`, since
 // an enum holds no reference.
-#[derive(Drop)]
+#[derive(Clone, Copy)]
 pub enum FieldAnswer {
     Whole { tag: u8, next: usize },
     Refused(u8, usize),
 }
 
-#[derive(Drop)]
+#[derive(Clone, Copy)]
 pub enum StartAnswer {
     Width(usize),
     NoStart,

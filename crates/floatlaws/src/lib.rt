@@ -1,1 +1,2 @@
 // Laws of IEEE 754 arithmetic over any format, for other crates to cite: see specs/. There is no code here.
+#![tactic(auto)]

@@ -2,6 +2,7 @@
 // other steps, whose signs and branches it alters. The fields that are left are written to a lent output, one behind the
 // other, and the Pauli at the end is answered: fired behind them it gives what the run gives (runlaws WithoutCorrections
 // says when).
+#![tactic(auto)]
 mod past;
 
 ghost use Rattle.std.specs.Prelude.{◌≡◌, ◌++◌, ◌≤◌, length, drop};
@@ -18,7 +19,7 @@ use checker::Checked;
 use steps::{Cursor, Read};
 
 // The end Pauli, and how many bytes are left; or the run's own refusal with its place, or 16.
-#[derive(Drop)]
+#[derive(Clone, Copy)]
 pub enum FoldAnswer {
     Folded(ActivePauli, usize),
     Refused(u8),

@@ -1,6 +1,7 @@
 // Reports of the steps of runs and logs of frames, asked in lines of standard input, as reporter, reports and framelog answer
 // them; the file stdout beside this folder has the answers that vectors/frames.py gives, and vectors/reports.py and
 // vectors/logs.py say what a line asks.
+#![tactic(auto)]
 mod ask;
 mod logs;
 mod name;

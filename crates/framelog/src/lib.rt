@@ -1,6 +1,7 @@
 // The log that a chip's frame unit writes beside a run: a byte for each rotation and projection, the sign or branch that it
 // used, and then the 17 bytes of the Pauli that it ends in. The right one is what carrying gives; whatever log a chip
 // hands over is judged by it, byte for byte.
+#![tactic(auto)]
 mod pauli_bytes;
 mod walk;
 
@@ -24,7 +25,7 @@ use checker::Checked;
 const LONGEST_LOG: usize = 2201;
 
 // How many bytes the log has; or the run's own refusal with its place, or 3, 4 or 16.
-#[derive(Drop)]
+#[derive(Clone, Copy)]
 pub enum LogAnswer {
     Logged(usize),
     Refused(u8),
@@ -32,7 +33,7 @@ pub enum LogAnswer {
 }
 
 // Whether the log is right; or the run's own refusal with its place, or 3, 4 or 24.
-#[derive(Drop)]
+#[derive(Clone, Copy)]
 pub enum JudgeAnswer {
     Judged(bool),
     Refused(u8),

@@ -1,6 +1,7 @@
 // Calls of activepauli, kernels, rotation, promotion, measurement and correction in text: each line asks
 // one, and its whole answer is written as a line, with every lent buffer as it is after the call. The
 // calls are listed in read::call; `#` is a comment.
+#![tactic(auto)]
 mod ask;
 pub mod read;
 pub mod write;

@@ -8,14 +8,14 @@ use pauli_calls::form;
 use paulis::PauliString;
 
 // What a text reads as.
-#[derive(Drop)]
+#[derive(Clone, Copy)]
 pub enum Parsed {
     Value(u64),
     Nothing,
 }
 
 // A buffer that was read: whether it could be, how many floats it has, and where what follows begins.
-#[derive(Drop)]
+#[derive(Clone, Copy)]
 pub struct Part {
     pub is_read: bool,
     pub count: usize,

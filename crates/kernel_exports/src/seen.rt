@@ -22,7 +22,7 @@ use verdicts::{SeenBit, Verdict};
 
 // Beside a refusal the Pauli is the identity on no qubits.
 #[repr(C)]
-#[derive(Drop)]
+#[derive(Clone, Copy)]
 pub struct SeenActivePauli {
     pub verdict: Verdict,
     pub pauli: ActivePauli,
@@ -30,21 +30,21 @@ pub struct SeenActivePauli {
 
 // Beside a refusal all numbers of an action or a kernel are 0.
 #[repr(C)]
-#[derive(Drop)]
+#[derive(Clone, Copy)]
 pub struct SeenAction {
     pub verdict: Verdict,
     pub action: ActivePauliAction,
 }
 
 #[repr(C)]
-#[derive(Drop)]
+#[derive(Clone, Copy)]
 pub struct SeenRotationKernel {
     pub verdict: Verdict,
     pub kernel: PrecomputedActivePauliRotationKernel,
 }
 
 #[repr(C)]
-#[derive(Drop)]
+#[derive(Clone, Copy)]
 pub struct SeenMeasurementKernel {
     pub verdict: Verdict,
     pub kernel: PrecomputedActivePauliMeasurementKernel,
@@ -52,7 +52,7 @@ pub struct SeenMeasurementKernel {
 
 // Beside a refusal the probability is +0.
 #[repr(C)]
-#[derive(Drop)]
+#[derive(Clone, Copy)]
 pub struct SeenProbability {
     pub verdict: Verdict,
     pub probability: f64,

@@ -1,6 +1,7 @@
 // Calls of activepauli, kernels, rotation, promotion, measurement and correction, from standard input; the file stdout beside this
 // folder has their answers. First each call at its limits, with the answers that vectors/model.py gives; then calls that were asked
 // of the Rust, with what it answered.
+#![tactic(auto)]
 use libc::STDIN_FILENO;
 
 fn main() {

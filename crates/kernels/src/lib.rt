@@ -3,6 +3,7 @@
 // Amplitude `basis` of an n-qubit state is the computational basis state whose qubit q is bit q of
 // `basis`. A basis index fits a machine word, so an action has at most 62 qubits and a kernel 61. The
 // kernels are of a fixed size: coefficients for each basis are derived from the masks as a call runs.
+#![tactic(auto)]
 ghost use Rattle.std.specs.Prelude.{◌≡◌, false, ◌<◌, ◌≤◌, ◌^◌};
 ghost use Rattle.answers.specs.Row.{answered};
 ghost use Rattle.paulis.specs.Strings.{pauli_of};
@@ -24,7 +25,7 @@ use paulis::PauliString;
 // parity picks up `odd_phase`, its negative. `xz_overlap_odd` says whether the two members of an X-pair
 // see opposite parities.
 #[repr(C)]
-#[derive(Drop)]
+#[derive(Clone, Copy)]
 pub struct ActivePauliAction {
     pub nqubits: usize,
     pub xmask: u64,
@@ -34,7 +35,7 @@ pub struct ActivePauliAction {
     pub xz_overlap_odd: bool,
 }
 
-#[derive(Drop)]
+#[derive(Clone, Copy)]
 pub enum ActionAnswer {
     Action(ActivePauliAction),
     Refused(u8),
@@ -43,7 +44,7 @@ pub enum ActionAnswer {
 // Everything c - i s P needs. `pair_bit` is the highest set bit of `xmask`, 0 where there is none;
 // `minus_even_coefficient` is m = (+0, -s) times i^phase.
 #[repr(C)]
-#[derive(Drop)]
+#[derive(Clone, Copy)]
 pub struct PrecomputedActivePauliRotationKernel {
     pub action: ActivePauliAction,
     pub is_diagonal: bool,
@@ -54,7 +55,7 @@ pub struct PrecomputedActivePauliRotationKernel {
     pub minus_even_coefficient: Complex64,
 }
 
-#[derive(Drop)]
+#[derive(Clone, Copy)]
 pub enum RotationKernelAnswer {
     Kernel(PrecomputedActivePauliRotationKernel),
     Refused(u8),
@@ -65,7 +66,7 @@ pub enum RotationKernelAnswer {
 // `diagonal_phase_bit` is set where x is 0 and i^phase is -1; `nondiagonal_coefficient1_even` is w at even parity
 // and branch 0, the conjugate of i^phase times 1/sqrt 2.
 #[repr(C)]
-#[derive(Drop)]
+#[derive(Clone, Copy)]
 pub struct PrecomputedActivePauliMeasurementKernel {
     pub action: ActivePauliAction,
     pub pivot: usize,
@@ -75,7 +76,7 @@ pub struct PrecomputedActivePauliMeasurementKernel {
     pub nondiagonal_coefficient1_even: Complex64,
 }
 
-#[derive(Drop)]
+#[derive(Clone, Copy)]
 pub enum MeasurementKernelAnswer {
     Kernel(PrecomputedActivePauliMeasurementKernel),
     Refused(u8),

@@ -1,5 +1,6 @@
 // The service's ledger: runs offered, finished and refused, in 64 bits, each going round to 0 after
 // 2^64 - 1. Only running is offered to it; checking and carrying are not. It counts none of the emulator's runs.
+#![tactic(auto)]
 ghost use Rattle.std.specs.Prelude.{◌≡◌};
 ghost use Rattle.amplitudelaws.specs.Lent.{memory};
 ghost use Rattle.framelaws.specs.Caller.{service, emulator};
@@ -12,7 +13,7 @@ ghost use Rattle.ledger.specs.Meaning.{ledger_of};
 use runner::RunAnswer;
 
 #[repr(C)]
-#[derive(Drop)]
+#[derive(Clone, Copy)]
 pub struct Ledger {
     pub offered: u64,
     pub finished: u64,
@@ -20,7 +21,7 @@ pub struct Ledger {
 }
 
 // A run's answer, and the ledger behind it.
-#[derive(Drop)]
+#[derive(Clone, Copy)]
 pub struct Served {
     pub answer: RunAnswer,
     pub ledger: Ledger,

@@ -1,5 +1,6 @@
 // Every open call of lines and of listing at its limits. Each is lent a buffer of dots; the answer is written
 // on a line, and then the whole buffer. The file stdout beside this folder was derived by hand from the scope.
+#![tactic(auto)]
 use libc::STDOUT_FILENO;
 use paulitext::TextAnswer;
 

@@ -1,6 +1,7 @@
 // The probability of a branch of a measured Pauli, and the projection on it (contiguous.rs, the scalar
 // loops): 2^n amplitudes become the low 2^(n-1), output index j being the basis without the pivot's bit.
 // Upper halves and what lies past the state are kept.
+#![tactic(auto)]
 mod amplitude;
 mod diagonal;
 mod mixing;
@@ -21,7 +22,7 @@ use activepauli::ActivePauli;
 use kernels::{MeasurementKernelAnswer, PrecomputedActivePauliMeasurementKernel};
 use rows::StepAnswer;
 
-#[derive(Drop)]
+#[derive(Clone, Copy)]
 pub enum ProbabilityAnswer {
     Probability(f64),
     Refused(u8),

@@ -1,5 +1,6 @@
 // A Pauli taken past one step, as carrying takes it past each step of a run. The call answers for any Pauli
 // and any step: where the two do not suit each other it is refused.
+#![tactic(auto)]
 mod row;
 mod suited;
 
@@ -13,7 +14,7 @@ use activepauli::ActivePauli;
 use steps::Step;
 
 // The step that the Pauli leaves behind it and the Pauli then; or 3, 4 or 10.
-#[derive(Drop)]
+#[derive(Clone, Copy)]
 pub enum PassAnswer {
     Past(Step, ActivePauli),
     Refused(u8),

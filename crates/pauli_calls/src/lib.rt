@@ -1,5 +1,6 @@
 // Calls of bits, paulis, pauligroup and paulitext in text: each line asks one, and its whole answer is
 // written as a line. The operations are listed in form::arity; `p` reads a text, `#` is a comment.
+#![tactic(auto)]
 mod ask;
 pub mod form;
 pub mod show;

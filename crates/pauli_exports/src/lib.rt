@@ -4,6 +4,7 @@
 // is a pointer and a length, a mask a pointer to four words: that they are so long is the caller's to see to. A bit
 // comes in as a number, since a byte that is handed over for a bool may be any: over 1 it is refused by 14, behind
 // the call's own rows.
+#![tactic(auto)]
 pub mod seen;
 
 ghost use Rattle.std.specs.Prelude.{◌≡◌, false, eqb};

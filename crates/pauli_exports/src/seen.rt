@@ -21,7 +21,7 @@ use verdicts::{SeenBit, SeenNumber, Verdict};
 
 // A letter by its X and its Z part: beside a refusal I.
 #[repr(C)]
-#[derive(Drop)]
+#[derive(Clone, Copy)]
 pub struct SeenLetter {
     pub verdict: Verdict,
     pub x: bool,
@@ -30,7 +30,7 @@ pub struct SeenLetter {
 
 // The highest qubit that a Pauli acts on. Where there is none, and beside a refusal, the qubit is 0.
 #[repr(C)]
-#[derive(Drop)]
+#[derive(Clone, Copy)]
 pub struct SeenSupport {
     pub verdict: Verdict,
     pub found: bool,
@@ -39,7 +39,7 @@ pub struct SeenSupport {
 
 // Beside a refusal the Pauli is the identity on no qubits.
 #[repr(C)]
-#[derive(Drop)]
+#[derive(Clone, Copy)]
 pub struct SeenPauli {
     pub verdict: Verdict,
     pub pauli: PauliString,

@@ -1,6 +1,7 @@
 // Multiplies Pauli strings. Each line of standard input holds two texts, separated by one space; the
 // text of their product is written, or `refused` with the number of the first refusal on the way and
 // the index of the byte where the refusal has one. At most 65,536 bytes are read.
+#![tactic(auto)]
 mod line;
 mod output;
 

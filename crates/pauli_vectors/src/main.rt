@@ -1,6 +1,7 @@
 // Calls of bits, paulis, pauligroup and paulitext, from standard input; the file stdout beside this folder has their answers. First
 // each call at its limits, with answers derived by hand; then calls that were asked of the Rust, with what it answered. At most
 // 393,216 bytes are read.
+#![tactic(auto)]
 ghost use Rattle.std.specs.Prelude.{◌≡◌, length};
 
 use libc::STDIN_FILENO;

@@ -1,5 +1,6 @@
 // The Pauli group (pauli.rs): product, anticommutation, coefficient, Hermitian test and sign. Each
 // call looks at its Paulis first and refuses by 3 what is none; then by 4 or 7 of the scope's table.
+#![tactic(auto)]
 mod algebra;
 
 ghost use Rattle.std.specs.Prelude.{◌≡◌};
@@ -8,7 +9,7 @@ ghost use Rattle.pauligroup.specs.Calls.{phase_answer_of, product_call, anticomm
 
 use paulis::{BitAnswer, PauliAnswer, PauliString};
 
-#[derive(Drop)]
+#[derive(Clone, Copy)]
 pub enum PhaseAnswer {
     Exponent(u8),
     Refused(u8),

@@ -3,6 +3,7 @@
 // The operator is i^phase times X^x Z^z: qubit q lives at bit q % 64 of word q / 64 of `x` and `z`,
 // and a Y is stored as x = 1, z = 1 with one more in the phase. The fields are public, so each call
 // looks at its Pauli first and refuses by 3 what is none; then by 5 of the scope's table.
+#![tactic(auto)]
 mod letter;
 mod support;
 
@@ -19,7 +20,7 @@ pub const MOST_QUBITS: usize = 256;
 
 // A Pauli operator on `nqubits` qubits, at most MOST_QUBITS, with a phase exponent of i in 0..3.
 #[repr(C)]
-#[derive(Drop)]
+#[derive(Clone, Copy)]
 pub struct PauliString {
     pub nqubits: usize,
     pub x: [u64; 4],
@@ -28,7 +29,7 @@ pub struct PauliString {
 }
 
 // A single-qubit Pauli operator.
-#[derive(Drop)]
+#[derive(Clone, Copy)]
 pub enum Pauli {
     I,
     X,
@@ -37,32 +38,32 @@ pub enum Pauli {
 }
 
 // Whether a Pauli was made, or the number of the refusal.
-#[derive(Drop)]
+#[derive(Clone, Copy)]
 pub enum Outcome {
     Done,
     Refused(u8),
 }
 
 // The Pauli that was made; beside a refusal, the identity on no qubits.
-#[derive(Drop)]
+#[derive(Clone, Copy)]
 pub struct PauliAnswer {
     pub outcome: Outcome,
     pub pauli: PauliString,
 }
 
-#[derive(Drop)]
+#[derive(Clone, Copy)]
 pub enum BitAnswer {
     Bit(bool),
     Refused(u8),
 }
 
-#[derive(Drop)]
+#[derive(Clone, Copy)]
 pub enum LetterAnswer {
     Letter(Pauli),
     Refused(u8),
 }
 
-#[derive(Drop)]
+#[derive(Clone, Copy)]
 pub enum SupportAnswer {
     Qubit(usize),
     Identity,

@@ -1,4 +1,5 @@
 // Pauli strings as text (pauli_string and Display of pauli.rs). Place in the text is the qubit.
+#![tactic(auto)]
 mod answer;
 mod byte;
 
@@ -10,7 +11,7 @@ use paulis::{LetterAnswer, PauliString};
 
 // Whether a text was a Pauli, or the number of the refusal, with the index of the byte where the
 // table has one.
-#[derive(Drop)]
+#[derive(Clone, Copy)]
 pub enum Reading {
     Done,
     Refused(u8),
@@ -18,14 +19,14 @@ pub enum Reading {
 }
 
 // The Pauli that was read; beside a refusal, the identity on no qubits.
-#[derive(Drop)]
+#[derive(Clone, Copy)]
 pub struct ReadAnswer {
     pub reading: Reading,
     pub pauli: PauliString,
 }
 
 // How many bytes were written.
-#[derive(Drop)]
+#[derive(Clone, Copy)]
 pub enum TextAnswer {
     Length(usize),
     Refused(u8),

@@ -1,4 +1,5 @@
 // Steps of a run, read by the field at a cursor. A read answers for any bytes and any cursor, whoever calls.
+#![tactic(auto)]
 mod bodies;
 mod number;
 
@@ -14,7 +15,7 @@ use fields::FieldAnswer;
 use steps::{Cursor, Read};
 
 // Eight bytes as a float: a NaN pattern does not become one.
-#[derive(Drop)]
+#[derive(Clone, Copy)]
 pub(crate) enum FloatAnswer {
     Float(f64),
     NaN,

@@ -1,5 +1,6 @@
 // Reads a line with a Pauli and perhaps a step's number, and behind it a run, from standard input, and writes the report on
 // what carrying the Pauli does to the run's steps to standard output.
+#![tactic(auto)]
 use libc::{STDIN_FILENO, STDOUT_FILENO};
 use paulitext::TextAnswer;
 

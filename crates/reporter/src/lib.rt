@@ -1,5 +1,6 @@
 // Reporting: why a step's sign or branch is what it is in the carried run. The frame before a step is the Pauli carried so
 // far; the flag is changed where that Pauli and the step's own anticommute, and the qubits on which they do are its cause.
+#![tactic(auto)]
 mod walk;
 
 ghost use Rattle.std.specs.Prelude.{◌≡◌};
@@ -18,14 +19,14 @@ use checker::Checked;
 use steps::Step;
 
 // Whether a sign or a branch is changed, and the mask of qubits; promotions, corrections and quarter turns have neither.
-#[derive(Drop)]
+#[derive(Clone, Copy)]
 pub enum Report {
     NoFlag,
     Flagged(bool, u64),
 }
 
 // A report; or the run's own refusal with its place, or 3, 4 or 20.
-#[derive(Drop)]
+#[derive(Clone, Copy)]
 pub enum ReportAnswer {
     Reported(Report),
     Refused(u8),
@@ -33,7 +34,7 @@ pub enum ReportAnswer {
 }
 
 // The frame before a step, and the step; or the refusals of a report.
-#[derive(Drop)]
+#[derive(Clone, Copy)]
 pub enum FindAnswer {
     Found(ActivePauli, Step),
     Refused(u8),

@@ -1,6 +1,7 @@
 // Which row of the scope's table refuses a call on amplitudes or a kernel: the row's number, 0 where
 // none does. Each function here answers for any arguments, so that a call can ask for all its rows and
 // take the first. And what such a call answers.
+#![tactic(auto)]
 ghost use Rattle.std.specs.Prelude.{◌≡◌, ◌^◌, leb};
 ghost use Rattle.std.specs.Float.Ieee.Scale.{finite};
 ghost use Rattle.answers.specs.Row as table;
@@ -23,7 +24,7 @@ pub const WIDEST_KERNEL: usize = 61;
 pub const WIDEST_PROMOTION: usize = 60;
 
 // What a call on amplitudes answers: refused by a row, or done, and then what was lent holds its result.
-#[derive(Drop)]
+#[derive(Clone, Copy)]
 pub enum StepAnswer {
     Done,
     Refused(u8),

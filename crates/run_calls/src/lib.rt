@@ -2,6 +2,7 @@
 // asks one, and its whole answer is written as a line, with every lent buffer as it is after the call. A line is the
 // call's name, a run (run_text::run), numbers and buffers (kernel_calls::read). The calls are listed in text::arity; `#`
 // is a comment.
+#![tactic(auto)]
 mod ask;
 mod both;
 mod fold;

@@ -16,7 +16,7 @@ use verdicts::Verdict;
 // A step by its tag, 2 to 5 or 7. `flag` is a rotation's sign or a projection's branch. What the step does not have is
 // not looked at; a projection's one float is the first.
 #[repr(C)]
-#[derive(Drop)]
+#[derive(Clone, Copy)]
 pub struct GivenStep {
     pub tag: u8,
     pub pauli: ActivePauli,
@@ -28,7 +28,7 @@ pub struct GivenStep {
 
 // The step that is left behind, and the Pauli then. Beside a refusal the tag is 0, and so are the others.
 #[repr(C)]
-#[derive(Drop)]
+#[derive(Clone, Copy)]
 pub struct SeenPast {
     pub verdict: Verdict,
     pub field: SeenField,

@@ -35,7 +35,7 @@ use verdicts::{SeenBit, SeenNumber, Verdict};
 
 // Beside a refusal all numbers of the survey are 0.
 #[repr(C)]
-#[derive(Drop)]
+#[derive(Clone, Copy)]
 pub struct SeenSurvey {
     pub verdict: Verdict,
     pub survey: Survey,
@@ -43,7 +43,7 @@ pub struct SeenSurvey {
 
 // Beside a refusal the width and the steps are 0.
 #[repr(C)]
-#[derive(Drop)]
+#[derive(Clone, Copy)]
 pub struct SeenEnding {
     pub verdict: Verdict,
     pub width: usize,
@@ -52,7 +52,7 @@ pub struct SeenEnding {
 
 // The end Pauli, and how many bytes are left. Beside a refusal the identity on no qubits, and 0.
 #[repr(C)]
-#[derive(Drop)]
+#[derive(Clone, Copy)]
 pub struct SeenFolding {
     pub verdict: Verdict,
     pub end: ActivePauli,
@@ -62,7 +62,7 @@ pub struct SeenFolding {
 // By `kind`: 0 the step has no sign or branch, 1 it is kept, 2 it is changed. The mask is 0 beside no flag, and both are 0
 // beside a refusal.
 #[repr(C)]
-#[derive(Drop)]
+#[derive(Clone, Copy)]
 pub struct SeenReport {
     pub verdict: Verdict,
     pub kind: u8,
@@ -71,7 +71,7 @@ pub struct SeenReport {
 
 // A run's answer, and the ledger behind it.
 #[repr(C)]
-#[derive(Drop)]
+#[derive(Clone, Copy)]
 pub struct SeenServed {
     pub ending: SeenEnding,
     pub ledger: Ledger,
@@ -80,7 +80,7 @@ pub struct SeenServed {
 // A field of a run by its tag: 2 to 5 and 7 a step, 6 the end. `flag` is a rotation's sign or a projection's branch. What
 // the field does not have is the identity on no qubits, false, 0 or +0; a projection's one float is the first.
 #[repr(C)]
-#[derive(Drop)]
+#[derive(Clone, Copy)]
 pub struct SeenField {
     pub tag: u8,
     pub pauli: ActivePauli,
@@ -92,7 +92,7 @@ pub struct SeenField {
 
 // The field at a cursor, and the cursor behind it. Beside a refusal the tag is 0, and so are the others.
 #[repr(C)]
-#[derive(Drop)]
+#[derive(Clone, Copy)]
 pub struct SeenRead {
     pub verdict: Verdict,
     pub field: SeenField,

@@ -3,6 +3,7 @@
 // then demand 3 on random runs, a Pauli fired before a run against the carried run and the end Pauli fired after it, with
 // both sides' amplitudes; then two Paulis in turn and as one; then starts for ends; then runs without corrections; then
 // both listings of E6.
+#![tactic(auto)]
 use libc::STDIN_FILENO;
 
 fn main() {

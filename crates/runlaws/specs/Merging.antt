@@ -17,16 +17,16 @@ use Rattle.runlaws.specs.TwoCorrections.InTurn.{alone, next}
 
 -- ---- any number of them
 
-merged_in_turn : (caller : Caller) (s out last : List ℕ) (Q ends : Pauli) (Qs : List Pauli) → InTurn caller s Q Qs ends last → length s ≤ length out
+merged_in_turn : (caller : Caller) (s out : List ℕ) (Q ends : Pauli) (last : List ℕ) (Qs : List Pauli) → InTurn caller s Q Qs ends last → length s ≤ length out
     → ((carrying caller s (product_of Q Qs) out).answer ≡ accepted ends) × (sent caller s (product_of Q Qs) out ≡ last)
 unfolding product_of is_accepted
-merged_in_turn caller s out last Q ends [] (alone first e) room = elsewhere caller s first out Q ends e room
-merged_in_turn caller s out last Q ends (P ∷ Ps) (next {end = end} {ends = rest} first e turn) room =
+merged_in_turn caller s out Q ends last [] (alone first e) room = elsewhere caller s first out Q ends e room
+merged_in_turn caller s out Q ends last (P ∷ Ps) (next {end = end} {ends = rest} first e turn) room =
     let t : List ℕ = sent caller s Q first in
     let A : Pauli = product_of P Ps in
     let one = sent_accepted caller s Q first (rw e) in
     let known = one.known in
-    let behind = merged_in_turn caller t out last P rest Ps turn (rw known.size room) in
+    let behind = merged_in_turn caller t out P rest last Ps turn (rw known.size room) in
     let through : is_accepted (carrying caller s A out).answer ≡ true = sym (alike_sent caller s first out Q A one.run known) ∙ ap is_accepted behind.0 in
     let law = carried_once caller s first out Q A one (sent_accepted caller s A out through) out room in
     let end_b : law.end_b ≡ end = accepted_same (sym law.first_ends ∙ e) in
@@ -42,7 +42,7 @@ two_corrections caller = record {
   refuses = λ s first second B A e. let one = sent_accepted caller s B first e in refused_sent caller s first second B A one.run one.known;
   unchanged = λ s out n k v e h. phase_checked caller s out n k v e (sent_accepted caller s (phase_on n k) out h);
   undoes = λ s first second B A xs zs e h. carried_back caller s first second B A (sent_accepted caller s B first e) (sent_accepted caller s A second h) xs zs;
-  in_turn = merged_in_turn caller;
+  in_turn = λ s out last Q ends Qs. merged_in_turn caller s out Q ends last Qs;
 }
 
 -- and so of what carry_run promises to the service, and carry_emulated to the emulator

@@ -1,5 +1,6 @@
 // Running: the steps of a run on lent amplitudes, one after the other. The run is checked whole first, so
 // that a refused run leaves all four buffers as they were.
+#![tactic(auto)]
 ghost use Rattle.std.specs.Prelude.{◌≡◌, ◌&&◌};
 ghost use Rattle.answers.specs.Answer.Answer.{accepted};
 ghost use Rattle.amplitudelaws.specs.Rows.{room_row};
@@ -19,7 +20,7 @@ use checker::{Checked, Survey};
 use steps::{Cursor, Read, Step};
 
 // The last width and the number of steps done; or the run's own refusal with its place, or 13.
-#[derive(Drop)]
+#[derive(Clone, Copy)]
 pub enum RunAnswer {
     Finished { width: usize, steps: usize },
     Refused(u8),

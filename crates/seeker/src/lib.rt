@@ -1,6 +1,7 @@
 // Seeking: which Pauli, noted before a run, is carried to a given one at its end. A phase that is raised at the
 // start is raised at the end, and the masks at the end are a linear function of those at the start. So each mask of
 // one bit is carried, at most 24 of them, and the masks of the end are sought among the sums of what they become.
+#![tactic(auto)]
 mod elimination;
 mod mask_word;
 mod walk;
@@ -21,7 +22,7 @@ use callers::Caller;
 use checker::Checked;
 
 // A Pauli on the run's start qubits; or the run's own refusal with its place, or 3, 4 or 25.
-#[derive(Drop)]
+#[derive(Clone, Copy)]
 pub enum SeekAnswer {
     Start(ActivePauli),
     Refused(u8),

@@ -1,11 +1,12 @@
 // The steps of a run as they are read: a step carries its Pauli and its floats, a read the step and
 // the cursor behind it, or the refusal with its place. Types, no functions.
+#![tactic(auto)]
 pub mod tag;
 
 use activepauli::ActivePauli;
 
 // Where the next field's tag stands in the run, and the width of the state there.
-#[derive(Drop)]
+#[derive(Clone, Copy)]
 pub struct Cursor {
     pub at: usize,
     pub width: usize,
@@ -14,7 +15,7 @@ pub struct Cursor {
 // A rotation has its Pauli, sign, c and s; a promotion c and q; a projection its Pauli, pivot, branch
 // and invnorm; a correction its Pauli, and so has a quarter turn, the rotation with sign 0 whose c and s
 // are both 1/sqrt 2.
-#[derive(Drop)]
+#[derive(Clone, Copy)]
 pub enum Step {
     Rotation(ActivePauli, bool, f64, f64),
     Promotion(f64, f64),
@@ -24,7 +25,7 @@ pub enum Step {
 }
 
 // What a read gives: a step, the end field, or the number of the row that refuses and its place.
-#[derive(Drop)]
+#[derive(Clone, Copy)]
 pub enum Read {
     Step(Step, Cursor),
     End(Cursor),

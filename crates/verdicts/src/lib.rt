@@ -1,5 +1,6 @@
 // What a caller in another language sees of an answer. An enum does not cross that border, so an exported
 // call answers a struct of numbers, of which a verdict is the first.
+#![tactic(auto)]
 ghost use Rattle.std.specs.Prelude.{◌≡◌, false};
 ghost use Rattle.answers.specs.Answer.{Answer};
 ghost use Rattle.verdicts.specs.Flag.{flag_row};
@@ -8,7 +9,7 @@ ghost use Rattle.verdicts.specs.Verdict.{Seen};
 // By `kind`: 0 the call is accepted, 1 it is refused by `number`, 2 it is refused by `number` at `place`.
 // A field that the kind has no use for is 0.
 #[repr(C)]
-#[derive(Drop)]
+#[derive(Clone, Copy)]
 pub struct Verdict {
     pub kind: u8,
     pub number: u8,
@@ -55,7 +56,7 @@ pub fn flag_row(flag: u8) -> u8
 
 // A bit: false beside a refusal.
 #[repr(C)]
-#[derive(Drop)]
+#[derive(Clone, Copy)]
 pub struct SeenBit {
     pub verdict: Verdict,
     pub bit: bool,
@@ -63,7 +64,7 @@ pub struct SeenBit {
 
 // A number: 0 beside a refusal.
 #[repr(C)]
-#[derive(Drop)]
+#[derive(Clone, Copy)]
 pub struct SeenNumber {
     pub verdict: Verdict,
     pub number: usize,

@@ -1,0 +1,7 @@
+use Rattle.paulilaws.specs.Pauli.{fits}
+use borrow.Author.Rules.{rules}
+use Rattle.activepauli.proofs.ActivePauli.is_pauli.Goals as goal
+
+pub returns : goal.returns
+unfolding fits
+returns c = rw (c.word_fits.ensures, c.word_fits-2.ensures)

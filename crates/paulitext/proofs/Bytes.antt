@@ -88,7 +88,7 @@ body_length_lem (suc n) P = letters_length 0 (suc n) P ∙ omega arith
 body_at : (n j : ℕ) (P : Pauli) → j < n → get_or (body n P) j 0 ≡ byte_of (letter_at j P)
 unfolding body
 body_at zero j P h = absurd (omega arith)
-body_at (suc n) j P h = letters_at 0 (suc n) j P h ∙ ap (λ (m : ℕ). byte_of (letter_at m P)) (native.Mathlib.Nat.zero_add j)
+body_at (suc n) j P h = letters_at 0 (suc n) j P h ∙ ap (λ (m : ℕ). byte_of (letter_at m P)) (native.Mathlib.Nat.zero-add j)
 
 -- ---- the whole text
 

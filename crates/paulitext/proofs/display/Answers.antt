@@ -28,7 +28,6 @@ unfolding coefficient_call
 returns-then-out-len c =
     let a = c.args in
     let P = pauli_of a.pauli in
-    let given = c.coefficient-1.given in
     let told = told_value P (coefficient P) (ap phase_answer_of (sym c.in-Exponent.is) ∙ c.coefficient_phase.ensures) in
     shown_short P a.out.now told.0 c.in-Exponent.coefficient c.text_len-len.result told.1 c.text_len-len.ensures c.if-out-len.true
 
@@ -37,13 +36,12 @@ unfolding coefficient_call
 write-requires c =
     let P = pauli_of c.args.pauli in
     let told = told_value P (coefficient P) (ap phase_answer_of (sym c.in-Exponent.is) ∙ c.coefficient_phase.ensures) in
-    (told.0, (c.text_len-len.ensures, c.if-out-len.false))
+    record { pauli_value = told.0; len_value = c.text_len-len.ensures; len_in_bounds = c.if-out-len.false }
 
 pub returns : goal.returns
 unfolding coefficient_call
 returns c =
     let a = c.args in
     let P = pauli_of a.pauli in
-    let given = c.coefficient-1.given in
     let told = told_value P (coefficient P) (ap phase_answer_of (sym c.in-Exponent.is) ∙ c.coefficient_phase.ensures) in
-    shown_all P a.out.now told.0 c.in-Exponent.coefficient c.text_len-len.result told.1 c.text_len-len.ensures c.if-out-len.false c.write.new.1.1.1.0 c.write.ensures
+    shown_all P a.out.now told.0 c.in-Exponent.coefficient c.text_len-len.result told.1 c.text_len-len.ensures c.if-out-len.false c.write.new.out c.write.ensures

@@ -47,7 +47,6 @@ pub loop-q-preserved : goal.loop-q-preserved
 loop-q-preserved c =
     let l = c.loop-q in
     let ops = c.args.ops.now in
-    let read = c.letter-1.given in
     let below : l.q < length ops = c.loop-q-test.true in
     let good : letter_of_byte (get_or ops l.q 0) ≡ some (pauli_letter_of c.in-Letter.letter) = letter_some (ap letter_answer_of (sym c.in-Letter.is) ∙ c.letter.ensures) in
     let next = made_set c.set-next.result (pauli_of l.pauli) l.q (pauli_letter_of c.in-Letter.letter) l.invariant.admitted (omega (arith, l.invariant.width)) c.set-next.ensures in

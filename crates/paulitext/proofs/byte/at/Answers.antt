@@ -26,7 +26,7 @@ pub returns-then-pauli-eq0 : goal.returns-then-pauli-eq0
 returns-then-pauli-eq0 c =
     let a = c.args in
     let h : length (prefix a.coefficient) ≤ a.i = omega (arith, c.prefix_len-before.ensures.0) in
-    sym (text_none a.coefficient a.pauli.nqubits a.i (pauli_of a.pauli) h c.requires.1 c.if-pauli-eq0.true)
+    sym (text_none a.coefficient a.pauli.nqubits a.i (pauli_of a.pauli) h c.requires.i_in_bounds c.if-pauli-eq0.true)
 
 pub returns-in-Letter : goal.returns-in-Letter
 returns-in-Letter c =
@@ -35,10 +35,9 @@ returns-in-Letter c =
     let len = c.prefix_len-before.ensures.0 in
     let h : length (prefix a.coefficient) ≤ a.i = omega (arith, c.if-i-before.false) in
     let q : ℕ = a.i - length (prefix a.coefficient) in
-    let inside : q < a.pauli.nqubits = omega (arith, c.requires.1, c.if-pauli-eq0.false) in
-    let read = c.letter-1.given in
+    let inside : q < a.pauli.nqubits = omega (arith, c.requires.i_in_bounds, c.if-pauli-eq0.false) in
     let told : accepted (pauli_letter_of c.in-Letter.letter) ≡ accepted (letter_at q P)
-    = ap letter_answer_of (sym c.in-Letter.is) ∙ c.get.ensures ∙ ap (λ (n : ℕ). get_call P (a.i - n)) len ∙ got_letter P q c.requires.0 inside in
+    = ap letter_answer_of (sym c.in-Letter.is) ∙ c.get.ensures ∙ ap (λ (n : ℕ). get_call P (a.i - n)) len ∙ got_letter P q c.requires.pauli_value inside in
     let same : pauli_letter_of c.in-Letter.letter ≡ letter_at q P = cc in
     c.of_letter.ensures ∙ ap byte_of same ∙ sym (text_letter a.coefficient a.pauli.nqubits a.i P h inside)
 
@@ -48,7 +47,7 @@ returns-in-Refused c =
     let P = pauli_of a.pauli in
     let len = c.prefix_len-before.ensures.0 in
     let q : ℕ = a.i - length (prefix a.coefficient) in
-    let inside : q < a.pauli.nqubits = omega (arith, c.requires.1, c.if-pauli-eq0.false, c.if-i-before.false) in
+    let inside : q < a.pauli.nqubits = omega (arith, c.requires.i_in_bounds, c.if-pauli-eq0.false, c.if-i-before.false) in
     let told : refused c.in-Refused.field-0 ≡ accepted (letter_at q P)
-    = ap letter_answer_of (sym c.in-Refused.is) ∙ c.get.ensures ∙ ap (λ (n : ℕ). get_call P (a.i - n)) len ∙ got_letter P q c.requires.0 inside in
+    = ap letter_answer_of (sym c.in-Refused.is) ∙ c.get.ensures ∙ ap (λ (n : ℕ). get_call P (a.i - n)) len ∙ got_letter P q c.requires.pauli_value inside in
     absurd (never told)

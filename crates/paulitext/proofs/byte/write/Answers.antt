@@ -11,25 +11,26 @@ use Rattle.paulitext.specs.Text.{prefix, body}
 use Rattle.paulitext.proofs.Bytes.{text_length_lem}
 use Rattle.paulitext.proofs.Walk.{Written, written_none, written_next, written_all}
 use Rattle.paulitext.proofs.byte.write.Goals as goal
+use Rattle.paulitext.proofs.byte.write.Goals.{Start}
 
-abbrev text : tie.Start invariant-loop decreases-loop → List ℕ
+abbrev text : Start → List ℕ
 text s = prefix s.args.coefficient ++ body s.args.pauli.nqubits (pauli_of s.args.pauli)
 
-whole : (s : tie.Start invariant-loop decreases-loop) → s.args.len ≡ length (text s)
-whole s = s.requires.1.0 ∙ sym (text_length_lem s.args.coefficient s.args.pauli.nqubits 0 (pauli_of s.args.pauli))
+whole : (s : Start) → s.args.len ≡ length (text s)
+whole s = s.requires.len_value ∙ sym (text_length_lem s.args.coefficient s.args.pauli.nqubits 0 (pauli_of s.args.pauli))
 
 pub loop-i-init : goal.loop-i-init
 loop-i-init c = (omega arith, written_none (text (goal.at.loop-i-init c).Start) c.args.out.now)
 
 pub at-requires : goal.at-requires
 at-requires c =
-    (c.requires.0, omega (arith, c.requires.1.0))
+    record { pauli_value = c.requires.pauli_value; i_in_bounds = omega (arith, c.requires.len_value) }
 
 pub bounds-out-i : goal.bounds-out-i
 bounds-out-i c =
     let l = c.loop-i in
-    let same : length l.out ≡ length c.args.out.now = ap length l.invariant.1 ∙ length-paste c.args.out.now 0 (text (goal.at.bounds-out-i c).Start) l.i (omega (arith, c.requires.1.1, l.invariant.0)) (omega (arith, whole (goal.at.bounds-out-i c).Start, l.invariant.0)) in
-    omega (arith, c.requires.1.1)
+    let same : length l.out ≡ length c.args.out.now = ap length l.invariant.1 ∙ length-paste c.args.out.now 0 (text (goal.at.bounds-out-i c).Start) l.i (omega (arith, c.requires.len_in_bounds, l.invariant.0)) (omega (arith, whole (goal.at.bounds-out-i c).Start, l.invariant.0)) in
+    omega (arith, c.requires.len_in_bounds)
 
 pub overflow_add-i : goal.overflow_add-i
 overflow_add-i c = omega arith
@@ -41,12 +42,12 @@ pub loop-i-preserved : goal.loop-i-preserved
 loop-i-preserved c =
     let l = c.loop-i in
     let below : l.i < c.args.len = c.loop-i-test.true in
-    (omega arith, written_next (text (goal.at.loop-i-preserved c).Start) c.args.out.now l.i c.at.result l.out (omega (arith, c.requires.1.1)) (omega (arith, whole (goal.at.loop-i-preserved c).Start)) c.at.ensures l.invariant.1)
+    (omega arith, written_next (text (goal.at.loop-i-preserved c).Start) c.args.out.now l.i c.at.result l.out (omega (arith, c.requires.len_in_bounds)) (omega (arith, whole (goal.at.loop-i-preserved c).Start)) c.at.ensures l.invariant.1)
 
 pub shape_of-out : goal.shape_of-out
 shape_of-out c =
     let l = c.loop-i in
-    ap length l.invariant.1 ∙ length-paste c.args.out.now 0 (text (goal.at.shape_of-out c).Start) l.i (omega (arith, c.requires.1.1, l.invariant.0)) (omega (arith, whole (goal.at.shape_of-out c).Start, l.invariant.0))
+    ap length l.invariant.1 ∙ length-paste c.args.out.now 0 (text (goal.at.shape_of-out c).Start) l.i (omega (arith, c.requires.len_in_bounds, l.invariant.0)) (omega (arith, whole (goal.at.shape_of-out c).Start, l.invariant.0))
 
 pub returns : goal.returns
 returns c =

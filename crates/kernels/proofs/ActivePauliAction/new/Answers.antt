@@ -1,11 +1,11 @@
 -- Up to width 62 the first words are the masks, so the one_word Pauli is the one that was given; past it both are refused by 6.
+-- where the rows have been looked at
 use mathlib.Core.Path.{◌≡◌, refl, sym, ap, ◌∙◌}
 use mathlib.Core.Logic.{⊎_elim}
 use Prim.Native.Nat.{◌≤◌, ◌<◌}
 use Rattle.bitlaws.specs.Order.{le_or_lt}
 use native.Mathlib.Omega.{arith}
 use lib.ListN.{get_or}
-use borrow.Author.Rules.{rules}
 use borrow.Author.Tests.{lt-ltb}
 use mir.Val.{Fits}
 use mir.Syntax.{w64}
@@ -21,8 +21,10 @@ use Rattle.amplitudelaws.specs.Rows.{width_row, hermitian_row, action_row}
 use Rattle.amplitudelaws.specs.Passed.{hermitian_passed}
 use Rattle.kernels.specs.Kernel.{pauli_action}
 use Rattle.kernels.proofs.OneWord.{one_word, first_below}
-use Rattle.kernels.proofs.ActivePauliAction.new.Statement.{statement}
-use Rattle.kernels.proofs.ActivePauliAction.new.Tie as tie
+use mathlib.Core.Bool.{not}
+use borrow.Author.Rules.{rules}
+use Rattle.kernels.proofs.ActivePauliAction.new.Goals as goal
+use Rattle.kernels.proofs.ActivePauliAction.new.Goals.{After-hermitian_row-row}
 
 abbrev narrow : PauliString → Pauli
 narrow p = record { n = p.nqubits; k = p.phase; x = get_or p.x 0 0; z = get_or p.z 0 0 }
@@ -47,29 +49,16 @@ module _ (p : PauliString) (fit : Admitted (pauli_of p)) (xs : Small p.x) (zs : 
       up_to : p.nqubits < 63 → hermitian_row 62 (narrow p) ≡ action_row (pauli_of p)
       up_to h = ap (hermitian_row 62) (whole (omega arith))
 
-is-pauli-requires : tie.Need-is-pauli-requires
-is-pauli-requires c κs = search rules
-
-returns : tie.Need-returns
+pub returns-then-not-is_pauli : goal.returns-then-not-is_pauli
 unfolding answered action_row hermitian_row width_row row first
-returns c = rw (← c.before.is-pauli.ensures, c.if1.true)
+returns-then-not-is_pauli c = rw (← c.is_pauli.ensures, (ap not c.if-not-is_pauli.true))
 
-array-read-xmask : tie.Need-array-read-xmask
-array-read-xmask c = search rules
-
-array-read-zmask : tie.Need-array-read-zmask
-array-read-zmask c = search rules
-
-hermitian-row-requires : tie.Need-hermitian-row-requires
-hermitian-row-requires c κs = search rules
-
--- where the rows have been looked at
-module _ (c : tie.After-hermitian-row) where
+module _ (c : After-hermitian_row-row) where
   abbrev given : PauliString
-  given = c.before.before.before.before.before.args.pauli
+  given = c.args.pauli
 
   fit : Admitted (pauli_of given)
-  fit = admitted (pauli_of given) c.before.before.before.before.is-pauli.ensures c.before.before.before.if1.false
+  fit = admitted (pauli_of given) c.is_pauli.ensures (ap not c.if-not-is_pauli.false)
 
   small_x : Small given.x
   small_x i = let f : Fits w64 (get_or given.x i 0) = search rules in f.fits
@@ -77,33 +66,19 @@ module _ (c : tie.After-hermitian-row) where
   small_z : Small given.z
   small_z i = let f : Fits w64 (get_or given.z i 0) = search rules in f.fits
 
-  rows : c.hermitian-row.result ≡ action_row (pauli_of given)
-  rows = c.hermitian-row.ensures ∙ narrow_row given fit small_x small_z
+  rows : c.hermitian_row-row.result ≡ action_row (pauli_of given)
+  rows = c.hermitian_row-row.ensures ∙ narrow_row given fit small_x small_z
 
-returns-2 : tie.Need-returns-2
-returns-2 c = rw (← rows c.before) (sym (answered_some c.before.hermitian-row.result _ (omega arith)))
+pub returns-then-row-ne0 : goal.returns-then-row-ne0
+returns-then-row-ne0 c = rw (← rows (goal.at.returns-then-row-ne0 c).After-hermitian_row-row) (sym (answered_some c.hermitian_row-row.result _ (omega arith)))
 
-action-requires : tie.Need-action-requires
-action-requires c κs = (fit c.before).fitting.phase
+pub action-requires : goal.action-requires
+action-requires c = (fit (goal.at.action-requires c).After-hermitian_row-row).fitting.phase
 
-returns-3 : tie.Need-returns-3
-returns-3 c =
-    let asked = c.before.before in
-    let none : hermitian_row 62 (narrow (given asked)) ≡ 0 = sym asked.hermitian-row.ensures ∙ c.before.if2.false in
-    let slim : (given asked).nqubits ≤ 62 = (hermitian_passed 62 (narrow (given asked)) none).1 in
-    let same : narrow (given asked) ≡ pauli_of (given asked) = whole (given asked) (fit asked) (small_x asked) (small_z asked) slim in
+pub returns : goal.returns
+returns c =
+    let none : hermitian_row 62 (narrow (given (goal.at.returns c).After-hermitian_row-row)) ≡ 0 = sym c.hermitian_row-row.ensures ∙ c.if-row-ne0.false in
+    let slim : (given (goal.at.returns c).After-hermitian_row-row).nqubits ≤ 62 = (hermitian_passed 62 (narrow (given (goal.at.returns c).After-hermitian_row-row)) none).1 in
+    let same : narrow (given (goal.at.returns c).After-hermitian_row-row) ≡ pauli_of (given (goal.at.returns c).After-hermitian_row-row) = whole (given (goal.at.returns c).After-hermitian_row-row) (fit (goal.at.returns c).After-hermitian_row-row) (small_x (goal.at.returns c).After-hermitian_row-row) (small_z (goal.at.returns c).After-hermitian_row-row) slim in
     ap accepted (c.action.ensures ∙ ap pauli_action same)
-    ∙ sym (answered_none (action_row (pauli_of (given asked))) _ (sym (rows asked) ∙ c.before.if2.false))
-
-pub new_spec : {M : Type 1} → statement M
-new_spec =
-    tie.close
-    (tie.spec
-    is-pauli-requires
-    returns
-    array-read-xmask
-    array-read-zmask
-    hermitian-row-requires
-    returns-2
-    action-requires
-    returns-3)
+    ∙ sym (answered_none (action_row (pauli_of (given (goal.at.returns c).After-hermitian_row-row))) _ (sym (rows (goal.at.returns c).After-hermitian_row-row) ∙ c.if-row-ne0.false))

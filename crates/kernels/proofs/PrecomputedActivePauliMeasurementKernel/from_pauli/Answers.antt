@@ -1,0 +1,16 @@
+use mathlib.Core.Path.{◌∙◌}
+use Prim.Native.Nat.{◌^◌}
+use Rattle.activepauli.specs.Active.{active_of}
+use Rattle.kernels.specs.Pivot.{mask_below}
+use Rattle.kernels.proofs.DefaultPivot.{default_answered}
+use borrow.Author.Rules.{rules}
+use Rattle.kernels.proofs.PrecomputedActivePauliMeasurementKernel.from_pauli.Goals as goal
+
+  statement,
+}
+use Rattle.kernels.proofs.PrecomputedActivePauliMeasurementKernel.from_pauli.Tie as tie
+
+pub returns : goal.returns
+returns c =
+    let M = active_of c.args.pauli in
+    c.with_pivot.ensures ∙ default_answered M 64 (mask_below M (2 ^ 64) (search rules) (search rules)) _ c.default_pivot.ensures

@@ -10,8 +10,7 @@ use Rattle.paulilaws.specs.Pauli.{Pauli, anti}
 use Rattle.activepauli.specs.Active.{active_of}
 use Rattle.activepauli.specs.Accepted.{anticommutes_accepted}
 use borrow.Author.Rules.{rules}
-use Rattle.passing.proofs.suited.anticommute.Statement.{statement}
-use Rattle.passing.proofs.suited.anticommute.Tie as tie
+use Rattle.passing.proofs.suited.anticommute.Goals as goal
 
 odd : (n : ℕ) → n < 2 → bit_of (eqb n 1) ≡ n
 odd zero h = refl
@@ -22,21 +21,11 @@ anti_bit : (A B : Pauli) → bit_of (eqb (anti A B) 1) ≡ anti A B
 unfolding anti
 anti_bit A B = odd (anti A B) (mod_two (overlap A.x B.z + overlap A.z B.x))
 
-anticommutes-requires : tie.Need-anticommutes-requires
-anticommutes-requires c κs = search rules
-
-bit-or-false-requires : tie.Need-bit-or-false-requires
-bit-or-false-requires c κs = search rules
-
-returns : tie.Need-returns
+pub returns : goal.returns
 unfolding value_or
 returns c =
-    let start = c.before.before in
-    let Q = active_of start.args.pauli in
-    let P = active_of start.args.other in
-    let p = start.requires in
-    let told = c.before.anticommutes.ensures ∙ anticommutes_accepted Q P p.first p.second p.width in
-    ap bit_of (c.bit-or-false.ensures ∙ ap (value_or false) told) ∙ anti_bit Q P
-
-pub anticommute-spec : {M : Type 1} → statement M
-anticommute-spec = tie.close (tie.spec anticommutes-requires bit-or-false-requires returns)
+    let Q = active_of c.args.pauli in
+    let P = active_of c.args.other in
+    let p = c.requires in
+    let told = c.anticommutes.ensures ∙ anticommutes_accepted Q P p.first p.second p.width in
+    ap bit_of (c.bit_or_false.ensures ∙ ap (value_or false) told) ∙ anti_bit Q P

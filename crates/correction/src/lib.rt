@@ -3,10 +3,10 @@
 #![tactic(auto)]
 mod moves;
 
+ghost use Rattle.amplitudelaws.specs.State.{state_of};
 ghost use Rattle.std.specs.Prelude.{◌≡◌};
 ghost use Rattle.activepauli.specs.Active.{active_of};
 ghost use Rattle.amplitudelaws.specs.Calls.{correcting};
-ghost use Rattle.amplitudelaws.specs.Lent.{state};
 ghost use Rattle.amplitudelaws.specs.Rows.{correction_row};
 ghost use Rattle.rows.specs.Step.{step_answer_of};
 
@@ -15,9 +15,9 @@ use rows::StepAnswer;
 
 // Refused by 3, by 6 past 61 qubits and by 13 where a buffer is too short.
 pub fn correct_contiguous_active(re: &mut [f64], im: &mut [f64], pauli: ActivePauli) -> StepAnswer
-    ensures { let S = state re im in
-        let did = correcting (active_of pauli) S.entry in
-        (step_answer_of result ≡ did.answer) × (S.exit ≡ did.lent) }
+    ensures { let S = state_of re.old im.old in
+        let did = correcting (active_of pauli) S in
+        (step_answer_of result ≡ did.answer) × (state_of re.new im.new ≡ did.lent) }
 {
     let row = refusal(re, im, pauli);
     if row != 0 {
@@ -29,7 +29,7 @@ pub fn correct_contiguous_active(re: &mut [f64], im: &mut [f64], pauli: ActivePa
 
 // The row that refuses, 0 where none does.
 fn refusal(re: &[f64], im: &[f64], pauli: ActivePauli) -> u8
-    ensures { result ≡ correction_row (active_of pauli) (state re im).entry }
+    ensures { result ≡ correction_row (active_of pauli) (state_of re.now im.now) }
 {
     let room = rows::has_room(re, im, pauli.nqubits);
     rows::first(

@@ -6,9 +6,9 @@ ghost use Rattle.statelaws.specs.Pairs.{Pivoted};
 ghost use Rattle.amplitudelaws.specs.Arithmetic.{times_power};
 ghost use Rattle.amplitudelaws.specs.Binary.{binary};
 ghost use Rattle.amplitudelaws.specs.Correction.{corrected};
-ghost use Rattle.amplitudelaws.specs.Lent.{state, Room, In};
+ghost use Rattle.amplitudelaws.specs.Lent.{Room, In};
 ghost use Rattle.amplitudelaws.specs.Rows.{widest_kernel};
-ghost use Rattle.amplitudelaws.specs.State.{point, set_point, written};
+ghost use Rattle.amplitudelaws.specs.State.{point, set_point, written, state_of};
 ghost use Rattle.activepauli.specs.Active.{active_of};
 
 use activepauli::ActivePauli;
@@ -16,9 +16,9 @@ use bits::{HighestBit, Opened};
 use complex::Complex64;
 
 pub(crate) fn correct(re: &mut [f64], im: &mut [f64], pauli: ActivePauli)
-    requires { (pauli.nqubits ≤ widest_kernel) × (pauli.x < 2 ^ pauli.nqubits) × Room pauli.nqubits re im }
-    ensures { let S = (state re im).entry in
-        (state re im).exit ≡ written pauli.nqubits (corrected binary (active_of pauli) (point S)) S }
+    requires { (pauli.nqubits ≤ widest_kernel) × (pauli.x < 2 ^ pauli.nqubits) × Room pauli.nqubits re.old im.old }
+    ensures { let S = state_of re.old im.old in
+        state_of re.new im.new ≡ written pauli.nqubits (corrected binary (active_of pauli) (point S)) S }
 {
     let HighestBit::Bit(pair_bit) = bits::highest_bit(pauli.x) else {
         correct_alone(re, im, pauli);
@@ -28,9 +28,9 @@ pub(crate) fn correct(re: &mut [f64], im: &mut [f64], pauli: ActivePauli)
 }
 
 fn correct_alone(re: &mut [f64], im: &mut [f64], pauli: ActivePauli)
-    requires { (pauli.nqubits ≤ widest_kernel) × (pauli.x ≡ 0) × Room pauli.nqubits re im }
-    ensures { let S = (state re im).entry in
-        (state re im).exit ≡ written pauli.nqubits (corrected binary (active_of pauli) (point S)) S }
+    requires { (pauli.nqubits ≤ widest_kernel) × (pauli.x ≡ 0) × Room pauli.nqubits re.old im.old }
+    ensures { let S = state_of re.old im.old in
+        state_of re.new im.new ≡ written pauli.nqubits (corrected binary (active_of pauli) (point S)) S }
 {
     let dim = 1usize << pauli.nqubits;
     let mut b = 0;
@@ -51,9 +51,9 @@ fn exponent(phase: u8, basis: u64, zmask: u64) -> u8
 }
 
 fn turn_at(re: &mut [f64], im: &mut [f64], b: usize, exponent: u8)
-    requires { In b re im }
-    ensures { let S = (state re im).entry in
-        (state re im).exit ≡ set_point b (times_power binary (exponent % 4) (point S b)) S }
+    requires { In b re.old im.old }
+    ensures { let S = state_of re.old im.old in
+        state_of re.new im.new ≡ set_point b (times_power binary (exponent % 4) (point S b)) S }
 {
     let a = complex::times_power(
         exponent,
@@ -68,9 +68,9 @@ fn turn_at(re: &mut [f64], im: &mut [f64], b: usize, exponent: u8)
 
 fn correct_pairs(re: &mut [f64], im: &mut [f64], pauli: ActivePauli, pair_bit: usize)
     requires { let n = pauli.nqubits in
-        (n ≤ widest_kernel) × Pivoted n pair_bit pauli.x × Room n re im }
-    ensures { let S = (state re im).entry in
-        (state re im).exit ≡ written pauli.nqubits (corrected binary (active_of pauli) (point S)) S }
+        (n ≤ widest_kernel) × Pivoted n pair_bit pauli.x × Room n re.old im.old }
+    ensures { let S = state_of re.old im.old in
+        state_of re.new im.new ≡ written pauli.nqubits (corrected binary (active_of pauli) (point S)) S }
 {
     let half = 1usize << (pauli.nqubits - 1);
     let mut k = 0;
@@ -97,11 +97,11 @@ fn opened_at(k: usize, pair_bit: usize) -> usize
 }
 
 fn exchange(re: &mut [f64], im: &mut [f64], left: usize, right: usize, to_left: u8, to_right: u8)
-    requires { In left re im × In right re im }
-    ensures { let S = (state re im).entry in
+    requires { In left re.old im.old × In right re.old im.old }
+    ensures { let S = state_of re.old im.old in
         let a = times_power binary (to_left % 4) (point S right) in
         let b = times_power binary (to_right % 4) (point S left) in
-        (state re im).exit ≡ set_point right b (set_point left a S) }
+        state_of re.new im.new ≡ set_point right b (set_point left a S) }
 {
     let p = Complex64 {
         re: re[left],

@@ -11,6 +11,8 @@
 mod own;
 pub mod seen;
 
+ghost use Rattle.amplitudelaws.specs.Memory.{memory_of};
+ghost use Rattle.amplitudelaws.specs.State.{state_of};
 ghost use Rattle.std.specs.Prelude.{◌≡◌, false, ◌%◌};
 ghost use Rattle.answers.specs.Outcome.{by_row, finished};
 ghost use Rattle.answers.specs.Row.{first, answered};
@@ -18,7 +20,6 @@ ghost use Rattle.paulilaws.specs.Pauli as book;
 ghost use Rattle.amplitudelaws.specs.Arithmetic as formula;
 ghost use Rattle.amplitudelaws.specs.Binary.{binary};
 ghost use Rattle.amplitudelaws.specs.Calls.{promoting, projected_memory, correcting};
-ghost use Rattle.amplitudelaws.specs.Lent.{state, memory};
 ghost use Rattle.amplitudelaws.specs.Rows.{action_row, rotation_kernel_row, measurement_row};
 ghost use Rattle.amplitudelaws.specs.Rows.{rotation_row, probability_row, projection_row};
 ghost use Rattle.amplitudelaws.specs.Steps as steps;
@@ -153,10 +154,10 @@ pub extern "C" fn naribhush_rotate(
     c: f64,
     s: f64,
 ) -> Verdict
-    ensures { let S = state re im in
-        let row = first (rotation_row (active_of pauli) c s S.entry) (flag_row sign) in
-        let did = by_row row finished (steps.rotation (active_of pauli) sign c s S.entry) S.entry in
-        (result ≡ verdict_of did.answer) × (S.exit ≡ did.lent) }
+    ensures { let S = state_of re.old im.old in
+        let row = first (rotation_row (active_of pauli) c s S) (flag_row sign) in
+        let did = by_row row finished (steps.rotation (active_of pauli) sign c s S) S in
+        (result ≡ verdict_of did.answer) × (state_of re.new im.new ≡ did.lent) }
 {
     let own = own::rotation_row(re, im, pauli, c, s);
     let row = rows::first(own, verdicts::flag_row(sign));
@@ -174,9 +175,9 @@ pub extern "C" fn naribhush_promote(
     c: f64,
     q: f64,
 ) -> Verdict
-    ensures { let S = state re im in
-        let did = promoting nqubits c q S.entry in
-        (result ≡ verdict_of did.answer) × (S.exit ≡ did.lent) }
+    ensures { let S = state_of re.old im.old in
+        let did = promoting nqubits c q S in
+        (result ≡ verdict_of did.answer) × (state_of re.new im.new ≡ did.lent) }
 {
     seen::step(promotion::promote_contiguous_active(re, im, nqubits, c, q))
 }
@@ -190,7 +191,7 @@ pub extern "C" fn naribhush_probability(
     pivot: usize,
     branch: u8,
 ) -> SeenProbability
-    ensures { let S = (state re im).entry in
+    ensures { let S = state_of re.now im.now in
         let row = first (probability_row (active_of pauli) pivot S) (flag_row branch) in
         Seen result.verdict result.probability no_float (answered row (steps.probability (active_of pauli) pivot branch S)) }
 {
@@ -214,11 +215,11 @@ pub extern "C" fn naribhush_project(
     branch: u8,
     invnorm: f64,
 ) -> Verdict
-    ensures { let m = memory re im scratch_re scratch_im in
+    ensures { let m = memory_of re.old im.old scratch_re.old scratch_im.old in
         let M = active_of pauli in
-        let row = first (projection_row M pivot invnorm m.entry.state m.entry.scratch) (flag_row branch) in
-        let did = by_row row finished (projected_memory M pivot branch invnorm m.entry) m.entry in
-        (result ≡ verdict_of did.answer) × (m.exit ≡ did.lent) }
+        let row = first (projection_row M pivot invnorm m.state m.scratch) (flag_row branch) in
+        let did = by_row row finished (projected_memory M pivot branch invnorm m) m in
+        (result ≡ verdict_of did.answer) × (memory_of re.new im.new scratch_re.new scratch_im.new ≡ did.lent) }
 {
     let own = own::projection_row(re, im, scratch_re, scratch_im, pauli, pivot, invnorm);
     let row = rows::first(own, verdicts::flag_row(branch));
@@ -239,9 +240,9 @@ pub extern "C" fn naribhush_project(
 
 #[unsafe(no_mangle)]
 pub extern "C" fn naribhush_correct(re: &mut [f64], im: &mut [f64], pauli: ActivePauli) -> Verdict
-    ensures { let S = state re im in
-        let did = correcting (active_of pauli) S.entry in
-        (result ≡ verdict_of did.answer) × (S.exit ≡ did.lent) }
+    ensures { let S = state_of re.old im.old in
+        let did = correcting (active_of pauli) S in
+        (result ≡ verdict_of did.answer) × (state_of re.new im.new ≡ did.lent) }
 {
     seen::step(correction::correct_contiguous_active(re, im, pauli))
 }

@@ -2,7 +2,6 @@
 // 2^64 - 1. Only running is offered to it; checking and carrying are not. It counts none of the emulator's runs.
 #![tactic(auto)]
 ghost use Rattle.std.specs.Prelude.{◌≡◌};
-ghost use Rattle.amplitudelaws.specs.Lent.{memory};
 ghost use Rattle.framelaws.specs.Caller.{service, emulator};
 ghost use Rattle.runlaws.specs.Calls.{running};
 ghost use Rattle.answers.specs.Answer.{is_accepted};

@@ -3,8 +3,8 @@
 #![tactic(auto)]
 ghost use Rattle.std.specs.Prelude.{◌≡◌, ◌+◌, ◌^◌, ◌≤◌, length};
 ghost use Rattle.std.proofs.lemmas.List.Edits.{sets};
-ghost use Rattle.amplitudelaws.specs.State.{State};
-ghost use Rattle.amplitudelaws.specs.Lent.{state, lent_state, Room};
+ghost use Rattle.amplitudelaws.specs.State.{State, state_of};
+ghost use Rattle.amplitudelaws.specs.Lent.{Room};
 ghost use Rattle.framelaws.specs.Caller.{widest_run};
 ghost use Rattle.lines.specs.Calls.{Lined};
 ghost use Rattle.lines.specs.Lines.{amplitude_line};
@@ -38,8 +38,8 @@ pub fn list_run(run: &[u8], out: &mut [u8]) -> TextAnswer
 
 // A state. The text's length is known before anything is written.
 fn list_state(re: &[f64], im: &[f64], width: usize, out: &mut [u8]) -> TextAnswer
-    requires { (width ≤ widest_run) × Room width re im }
-    ensures { Lined (state_text width (state re im).entry) out.old result out.new }
+    requires { (width ≤ widest_run) × Room width re.now im.now }
+    ensures { Lined (state_text width (state_of re.now im.now)) out.old result out.new }
 {
     let dim = 1usize << width;
     let first = 8 + lines::decimal_length(width as u64);
@@ -69,8 +69,8 @@ fn lines_length(dim: usize) -> usize
 // Puts the lines of the bases below `dim` at `at`.
 fn put_lines(re: &[f64], im: &[f64], dim: usize, at: usize, out: &mut [u8])
     requires dim_in_bounds { (dim ≤ length re.now) × (dim ≤ length im.now) }
-    requires dim_in_bounds_2 { at + length (amplitude_lines (lent_state re im) dim) ≤ length out.old }
-    ensures { out.new ≡ sets out.old at (amplitude_lines (state re im).entry dim) }
+    requires dim_in_bounds_2 { at + length (amplitude_lines (state_of re.now im.now) dim) ≤ length out.old }
+    ensures { out.new ≡ sets out.old at (amplitude_lines (state_of re.now im.now) dim) }
 {
     let mut end = at;
     let mut b = 0;

@@ -1,16 +1,16 @@
 // One amplitude of the two buffers, and the basis of an output.
 ghost use Rattle.std.specs.Prelude.{◌≡◌, ◌%◌, ◌<◌, ◌^◌};
 ghost use Rattle.bitlaws.specs.Opening.{open_bit};
-ghost use Rattle.amplitudelaws.specs.Lent.{state, In};
-ghost use Rattle.amplitudelaws.specs.State.{point, set_point};
+ghost use Rattle.amplitudelaws.specs.Lent.{In};
+ghost use Rattle.amplitudelaws.specs.State.{point, set_point, state_of};
 ghost use Rattle.complex.specs.Complex.{complex_of};
 
 use bits::Opened;
 use complex::Complex64;
 
 pub(crate) fn read(re: &[f64], im: &[f64], b: usize) -> Complex64
-    requires { In b re im }
-    ensures { complex_of result ≡ point (state re im).entry b }
+    requires { In b re.now im.now }
+    ensures { complex_of result ≡ point (state_of re.now im.now) b }
 {
     Complex64 {
         re: re[b],
@@ -19,8 +19,8 @@ pub(crate) fn read(re: &[f64], im: &[f64], b: usize) -> Complex64
 }
 
 pub(crate) fn write(re: &mut [f64], im: &mut [f64], b: usize, a: Complex64)
-    requires { In b re im }
-    ensures { (state re im).exit ≡ set_point b (complex_of a) (state re im).entry }
+    requires { In b re.old im.old }
+    ensures { state_of re.new im.new ≡ set_point b (complex_of a) (state_of re.old im.old) }
 {
     re[b] = a.re;
     im[b] = a.im;

@@ -5,9 +5,9 @@ ghost use Rattle.bitlaws.specs.Digit.{bit_of};
 ghost use Rattle.bitlaws.specs.Source as basis;
 ghost use Rattle.amplitudelaws.specs.Arithmetic.{scaled};
 ghost use Rattle.amplitudelaws.specs.Binary.{binary};
-ghost use Rattle.amplitudelaws.specs.Lent.{state, Room, In};
+ghost use Rattle.amplitudelaws.specs.Lent.{Room, In};
 ghost use Rattle.amplitudelaws.specs.Rows.{widest_kernel};
-ghost use Rattle.amplitudelaws.specs.State.{point, set_point, written};
+ghost use Rattle.amplitudelaws.specs.State.{point, set_point, written, state_of};
 ghost use Rattle.kernels.specs.Kernel.{measurement_kernel_of};
 ghost use Rattle.measurement.specs.Measured.{kernel_projected, Projectable};
 
@@ -22,10 +22,10 @@ pub(crate) fn project_diagonal(
     invnorm: f64,
 )
     requires { let n = kernel.action.nqubits in
-        Projectable (measurement_kernel_of kernel) × (kernel.is_diagonal ≡ true) × Room n re im }
-    ensures { let S = (state re im).entry in
+        Projectable (measurement_kernel_of kernel) × (kernel.is_diagonal ≡ true) × Room n re.old im.old }
+    ensures { let S = state_of re.old im.old in
         let K = measurement_kernel_of kernel in
-        (state re im).exit ≡ written (K.action.n - 1) (kernel_projected K (bit_of branch) invnorm S) S }
+        state_of re.new im.new ≡ written (K.action.n - 1) (kernel_projected K (bit_of branch) invnorm S) S }
 {
     let odd = kernel.diagonal_phase_bit ^ branch;
     let mut j = 0;
@@ -49,9 +49,9 @@ pub(crate) fn source(packed: usize, pivot: usize, zmask: u64, odd: bool) -> usiz
 }
 
 fn gather(re: &mut [f64], im: &mut [f64], j: usize, from: usize, invnorm: f64)
-    requires { In j re im × In from re im }
-    ensures { let S = (state re im).entry in
-        (state re im).exit ≡ set_point j (scaled binary (point S from) invnorm) S }
+    requires { In j re.old im.old × In from re.old im.old }
+    ensures { let S = state_of re.old im.old in
+        state_of re.new im.new ≡ set_point j (scaled binary (point S from) invnorm) S }
 {
     re[j] = re[from] * invnorm;
     im[j] = im[from] * invnorm;

@@ -7,12 +7,14 @@ mod diagonal;
 mod mixing;
 mod norm;
 
+ghost use Rattle.amplitudelaws.specs.Memory.{memory_of};
+ghost use Rattle.amplitudelaws.specs.State.{state_of};
 ghost use Rattle.std.specs.Prelude.{◌≡◌, false, ◌-◌};
 ghost use Rattle.answers.specs.Outcome.{by_row, finished};
 ghost use Rattle.bitlaws.specs.Digit.{bit_of};
 ghost use Rattle.activepauli.specs.Active.{active_of};
 ghost use Rattle.amplitudelaws.specs.Calls.{weighing, projecting};
-ghost use Rattle.amplitudelaws.specs.Lent.{state, memory, Room};
+ghost use Rattle.amplitudelaws.specs.Lent.{Room};
 ghost use Rattle.rows.specs.Step.{step_answer_of};
 ghost use Rattle.kernels.specs.Kernel.{measurement_kernel_of};
 ghost use Rattle.measurement.specs.Measured.{probability_answer_of, kernel_memory, Projectable};
@@ -37,7 +39,7 @@ pub fn probability_contiguous(
     pivot: usize,
     branch: bool,
 ) -> ProbabilityAnswer
-    ensures { probability_answer_of result ≡ weighing (active_of pauli) pivot (bit_of branch) (state re im).entry }
+    ensures { probability_answer_of result ≡ weighing (active_of pauli) pivot (bit_of branch) (state_of re.now im.now) }
 {
     match PrecomputedActivePauliMeasurementKernel::with_pivot(pauli, pivot) {
         MeasurementKernelAnswer::Refused(row) => ProbabilityAnswer::Refused(row),
@@ -63,9 +65,9 @@ pub fn project_contiguous(
     branch: bool,
     invnorm: f64,
 ) -> StepAnswer
-    ensures { let m = memory re im scratch_re scratch_im in
-        let did = projecting (active_of pauli) pivot (bit_of branch) invnorm m.entry in
-        (step_answer_of result ≡ did.answer) × (m.exit ≡ did.lent) }
+    ensures { let m = memory_of re.old im.old scratch_re.old scratch_im.old in
+        let did = projecting (active_of pauli) pivot (bit_of branch) invnorm m in
+        (step_answer_of result ≡ did.answer) × (memory_of re.new im.new scratch_re.new scratch_im.new ≡ did.lent) }
 {
     match PrecomputedActivePauliMeasurementKernel::with_pivot(pauli, pivot) {
         MeasurementKernelAnswer::Refused(row) => StepAnswer::Refused(with_eight(row, invnorm)),
@@ -97,10 +99,10 @@ fn project_in_room(
     invnorm: f64,
 ) -> StepAnswer
     requires { Projectable (measurement_kernel_of kernel) }
-    ensures { let m = memory re im scratch_re scratch_im in
+    ensures { let m = memory_of re.old im.old scratch_re.old scratch_im.old in
         let K = measurement_kernel_of kernel in
-        let did = by_row (kernel_row K invnorm m.entry) finished (kernel_memory K (bit_of branch) invnorm m.entry) m.entry in
-        (step_answer_of result ≡ did.answer) × (m.exit ≡ did.lent) }
+        let did = by_row (kernel_row K invnorm m) finished (kernel_memory K (bit_of branch) invnorm m) m in
+        (step_answer_of result ≡ did.answer) × (memory_of re.new im.new scratch_re.new scratch_im.new ≡ did.lent) }
 {
     let row = refusal(re, im, scratch_re, scratch_im, kernel, invnorm);
     if row != 0 {
@@ -120,7 +122,7 @@ fn refusal(
     invnorm: f64,
 ) -> u8
     requires { Projectable (measurement_kernel_of kernel) }
-    ensures { result ≡ kernel_row (measurement_kernel_of kernel) invnorm (memory re im scratch_re scratch_im).entry }
+    ensures { result ≡ kernel_row (measurement_kernel_of kernel) invnorm (memory_of re.now im.now scratch_re.now scratch_im.now) }
 {
     let n = kernel.action.nqubits;
     let enough = rows::has_room(re, im, n)
@@ -140,10 +142,10 @@ fn project(
     branch: bool,
     invnorm: f64,
 )
-    requires { Projectable (measurement_kernel_of kernel) × Room kernel.action.nqubits re im
-        × (kernel.is_diagonal ≡ false → Room (kernel.action.nqubits - 1) scratch_re scratch_im) }
-    ensures { let m = memory re im scratch_re scratch_im in
-        m.exit ≡ kernel_memory (measurement_kernel_of kernel) (bit_of branch) invnorm m.entry }
+    requires { Projectable (measurement_kernel_of kernel) × Room kernel.action.nqubits re.old im.old
+        × (kernel.is_diagonal ≡ false → Room (kernel.action.nqubits - 1) scratch_re.old scratch_im.old) }
+    ensures { let m = memory_of re.old im.old scratch_re.old scratch_im.old in
+        memory_of re.new im.new scratch_re.new scratch_im.new ≡ kernel_memory (measurement_kernel_of kernel) (bit_of branch) invnorm m }
 {
     if kernel.is_diagonal {
         diagonal::project_diagonal(re, im, kernel, branch, invnorm);

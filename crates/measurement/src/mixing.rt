@@ -2,9 +2,9 @@
 // the caller's scratch and copies it back.
 ghost use Rattle.std.specs.Prelude.{◌≡◌, false, ◌-◌, ◌≤◌, ◌<◌, ◌^◌};
 ghost use Rattle.bitlaws.specs.Digit.{bit_of};
-ghost use Rattle.amplitudelaws.specs.Lent.{state, Room};
+ghost use Rattle.amplitudelaws.specs.Lent.{Room};
 ghost use Rattle.amplitudelaws.specs.Rows.{widest_kernel};
-ghost use Rattle.amplitudelaws.specs.State.{point, written};
+ghost use Rattle.amplitudelaws.specs.State.{point, written, state_of};
 ghost use Rattle.complex.specs.Complex.{complex_of};
 ghost use Rattle.kernels.specs.Kernel.{measurement_kernel_of};
 ghost use Rattle.measurement.specs.Measured.{kernel_remaining, kernel_projected, Projectable};
@@ -22,8 +22,8 @@ pub(crate) fn mixture(
     j: usize,
 ) -> Complex64
     requires { Projectable (measurement_kernel_of kernel) × (kernel.is_diagonal ≡ false)
-        × (j < 2 ^ (kernel.action.nqubits - 1)) × Room kernel.action.nqubits re im }
-    ensures { complex_of result ≡ kernel_remaining (measurement_kernel_of kernel) (bit_of branch) (point (state re im).entry) j }
+        × (j < 2 ^ (kernel.action.nqubits - 1)) × Room kernel.action.nqubits re.now im.now }
+    ensures { complex_of result ≡ kernel_remaining (measurement_kernel_of kernel) (bit_of branch) (point (state_of re.now im.now)) j }
 {
     let source0 = amplitude::opened_at(j, kernel.pivot);
     let source1 = source0 ^ kernel.action.xmask as usize;
@@ -50,10 +50,10 @@ pub(crate) fn project_to_scratch(
     invnorm: f64,
 )
     requires { Projectable (measurement_kernel_of kernel) × (kernel.is_diagonal ≡ false)
-        × Room kernel.action.nqubits re im × Room (kernel.action.nqubits - 1) scratch_re scratch_im }
-    ensures { let T = state scratch_re scratch_im in
+        × Room kernel.action.nqubits re.now im.now × Room (kernel.action.nqubits - 1) scratch_re.old scratch_im.old }
+    ensures { let T = state_of scratch_re.old scratch_im.old in
         let K = measurement_kernel_of kernel in
-        T.exit ≡ written (K.action.n - 1) (kernel_projected K (bit_of branch) invnorm (state re im).entry) T.entry }
+        state_of scratch_re.new scratch_im.new ≡ written (K.action.n - 1) (kernel_projected K (bit_of branch) invnorm (state_of re.now im.now)) T }
 {
     let mut j = 0;
     while j < kernel.out_dim {
@@ -71,9 +71,9 @@ pub(crate) fn copy_back(
     scratch_im: &[f64],
     nqubits: usize,
 )
-    requires { (nqubits ≤ widest_kernel - 1) × Room nqubits re im × Room nqubits scratch_re scratch_im }
-    ensures { let scratch = (state scratch_re scratch_im).entry in
-        (state re im).exit ≡ written nqubits (point scratch) (state re im).entry }
+    requires { (nqubits ≤ widest_kernel - 1) × Room nqubits re.old im.old × Room nqubits scratch_re.now scratch_im.now }
+    ensures { let scratch = state_of scratch_re.now scratch_im.now in
+        state_of re.new im.new ≡ written nqubits (point scratch) (state_of re.old im.old) }
 {
     let dim = 1usize << nqubits;
     let mut j = 0;

@@ -1,8 +1,8 @@
 // The squared length of what a branch leaves.
 ghost use Rattle.std.specs.Prelude.{◌≡◌, ◌-◌, ◌<◌, ◌^◌};
 ghost use Rattle.bitlaws.specs.Digit.{bit_of};
-ghost use Rattle.amplitudelaws.specs.Lent.{state, Room};
-ghost use Rattle.amplitudelaws.specs.State.{point};
+ghost use Rattle.amplitudelaws.specs.Lent.{Room};
+ghost use Rattle.amplitudelaws.specs.State.{point, state_of};
 ghost use Rattle.complex.specs.Complex.{complex_of};
 ghost use Rattle.kernels.specs.Kernel.{measurement_kernel_of};
 ghost use Rattle.measurement.specs.Measured.{kernel_remaining, kernel_mass, Projectable};
@@ -18,9 +18,9 @@ pub(crate) fn mass(
     kernel: PrecomputedActivePauliMeasurementKernel,
     branch: bool,
 ) -> f64
-    requires { Projectable (measurement_kernel_of kernel) × Room kernel.action.nqubits re im }
+    requires { Projectable (measurement_kernel_of kernel) × Room kernel.action.nqubits re.now im.now }
     ensures { let K = measurement_kernel_of kernel in
-        result ≡ kernel_mass K (bit_of branch) (2 ^ (K.action.n - 1)) (state re im).entry }
+        result ≡ kernel_mass K (bit_of branch) (2 ^ (K.action.n - 1)) (state_of re.now im.now) }
 {
     let mut sum = 0.0;
     let mut j = 0;
@@ -40,8 +40,8 @@ fn remaining(
     j: usize,
 ) -> Complex64
     requires { Projectable (measurement_kernel_of kernel)
-        × (j < 2 ^ (kernel.action.nqubits - 1)) × Room kernel.action.nqubits re im }
-    ensures { complex_of result ≡ kernel_remaining (measurement_kernel_of kernel) (bit_of branch) (point (state re im).entry) j }
+        × (j < 2 ^ (kernel.action.nqubits - 1)) × Room kernel.action.nqubits re.now im.now }
+    ensures { complex_of result ≡ kernel_remaining (measurement_kernel_of kernel) (bit_of branch) (point (state_of re.now im.now)) j }
 {
     if !kernel.is_diagonal {
         return crate::mixing::mixture(re, im, kernel, branch, j);

@@ -2,18 +2,18 @@
 ghost use Rattle.std.specs.Prelude.{◌≡◌, suc, ◌≤◌};
 ghost use Rattle.amplitudelaws.specs.Arithmetic.{scale};
 ghost use Rattle.amplitudelaws.specs.Binary.{binary};
-ghost use Rattle.amplitudelaws.specs.Lent.{state, Room, In};
+ghost use Rattle.amplitudelaws.specs.Lent.{Room, In};
 ghost use Rattle.amplitudelaws.specs.Promotion.{raised, promoted};
 ghost use Rattle.amplitudelaws.specs.Rows.{widest_promotion};
-ghost use Rattle.amplitudelaws.specs.State.{point, set_point, written};
+ghost use Rattle.amplitudelaws.specs.State.{point, set_point, written, state_of};
 ghost use Rattle.complex.specs.Complex.{complex_of};
 
 use complex::Complex64;
 
 pub(crate) fn promote(re: &mut [f64], im: &mut [f64], nqubits: usize, c: f64, q: f64)
-    requires { (nqubits ≤ widest_promotion) × Room (suc nqubits) re im }
-    ensures { let S = (state re im).entry in
-        (state re im).exit ≡ written (suc nqubits) (promoted binary nqubits c q (point S)) S }
+    requires { (nqubits ≤ widest_promotion) × Room (suc nqubits) re.old im.old }
+    ensures { let S = state_of re.old im.old in
+        state_of re.new im.new ≡ written (suc nqubits) (promoted binary nqubits c q (point S)) S }
 {
     let dim = 1usize << nqubits;
     let mut b = 0;
@@ -24,11 +24,11 @@ pub(crate) fn promote(re: &mut [f64], im: &mut [f64], nqubits: usize, c: f64, q:
 }
 
 fn promote_at(re: &mut [f64], im: &mut [f64], low: usize, high: usize, c: f64, q: f64)
-    requires { In low re im × In high re im }
-    ensures { let S = (state re im).entry in
+    requires { In low re.old im.old × In high re.old im.old }
+    ensures { let S = state_of re.old im.old in
         let a = scale binary c (point S low) in
         let b = raised binary q (point S low) in
-        (state re im).exit ≡ set_point high b (set_point low a S) }
+        state_of re.new im.new ≡ set_point high b (set_point low a S) }
 {
     let r = re[low];
     let i = im[low];

@@ -3,9 +3,9 @@
 #![tactic(auto)]
 mod halves;
 
+ghost use Rattle.amplitudelaws.specs.State.{state_of};
 ghost use Rattle.std.specs.Prelude.{◌≡◌};
 ghost use Rattle.amplitudelaws.specs.Calls.{promoting};
-ghost use Rattle.amplitudelaws.specs.Lent.{state};
 ghost use Rattle.amplitudelaws.specs.Rows.{promotion_row};
 ghost use Rattle.rows.specs.Step.{step_answer_of};
 
@@ -20,9 +20,9 @@ pub fn promote_contiguous_active(
     c: f64,
     q: f64,
 ) -> StepAnswer
-    ensures { let S = state re im in
-        let did = promoting nqubits c q S.entry in
-        (step_answer_of result ≡ did.answer) × (S.exit ≡ did.lent) }
+    ensures { let S = state_of re.old im.old in
+        let did = promoting nqubits c q S in
+        (step_answer_of result ≡ did.answer) × (state_of re.new im.new ≡ did.lent) }
 {
     let row = refusal(re, im, nqubits, c, q);
     if row != 0 {
@@ -34,7 +34,7 @@ pub fn promote_contiguous_active(
 
 // The row that refuses, 0 where none does.
 fn refusal(re: &[f64], im: &[f64], nqubits: usize, c: f64, q: f64) -> u8
-    ensures { result ≡ promotion_row nqubits c q (state re im).entry }
+    ensures { result ≡ promotion_row nqubits c q (state_of re.now im.now) }
 {
     let too_wide = rows::promoted_width_row(nqubits);
     if too_wide != 0 {

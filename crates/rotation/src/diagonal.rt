@@ -2,10 +2,10 @@
 ghost use Rattle.std.specs.Prelude.{◌≡◌, ◌≤◌};
 ghost use Rattle.bitlaws.specs.Digit.{bit_of};
 ghost use Rattle.amplitudelaws.specs.Binary.{binary};
-ghost use Rattle.amplitudelaws.specs.Lent.{state, Room, In};
+ghost use Rattle.amplitudelaws.specs.Lent.{Room, In};
 ghost use Rattle.amplitudelaws.specs.Rotation.{rotated_diagonal};
 ghost use Rattle.amplitudelaws.specs.Rows.{widest_kernel};
-ghost use Rattle.amplitudelaws.specs.State.{point, set_point, written};
+ghost use Rattle.amplitudelaws.specs.State.{point, set_point, written, state_of};
 ghost use Rattle.complex.specs.Complex.{complex_of};
 
 use complex::Complex64;
@@ -19,9 +19,9 @@ pub(crate) fn rotate_diagonal(
     c: f64,
     m: Complex64,
 )
-    requires { (nqubits ≤ widest_kernel) × Room nqubits re im }
-    ensures { let S = (state re im).entry in
-        (state re im).exit ≡ written nqubits (rotated_diagonal binary zmask (bit_of sign) c (complex_of m) (point S)) S }
+    requires { (nqubits ≤ widest_kernel) × Room nqubits re.old im.old }
+    ensures { let S = state_of re.old im.old in
+        state_of re.new im.new ≡ written nqubits (rotated_diagonal binary zmask (bit_of sign) c (complex_of m) (point S)) S }
 {
     let dim = 1usize << nqubits;
     let mut b = 0;
@@ -32,9 +32,9 @@ pub(crate) fn rotate_diagonal(
 }
 
 fn rotate_at(re: &mut [f64], im: &mut [f64], b: usize, zmask: u64, sign: bool, c: f64, m: Complex64)
-    requires { In b re im }
-    ensures { let S = (state re im).entry in
-        (state re im).exit ≡ set_point b (rotated_diagonal binary zmask (bit_of sign) c (complex_of m) (point S) b) S }
+    requires { In b re.old im.old }
+    ensures { let S = state_of re.old im.old in
+        state_of re.new im.new ≡ set_point b (rotated_diagonal binary zmask (bit_of sign) c (complex_of m) (point S) b) S }
 {
     let t = complex::negated(bits::differs_from_parity(sign, b as u64, zmask), m);
     let p = Complex64 {

@@ -12,9 +12,9 @@ ghost use Rattle.std.specs.Prelude.{◌≡◌};
 ghost use Rattle.answers.specs.Outcome.{by_row, finished};
 ghost use Rattle.bitlaws.specs.Digit.{bit_of};
 ghost use Rattle.amplitudelaws.specs.Calls.{rotating};
-ghost use Rattle.amplitudelaws.specs.Lent.{state, Room};
+ghost use Rattle.amplitudelaws.specs.Lent.{Room};
 ghost use Rattle.amplitudelaws.specs.Rows.{room_row};
-ghost use Rattle.amplitudelaws.specs.State.{room};
+ghost use Rattle.amplitudelaws.specs.State.{room, state_of};
 ghost use Rattle.activepauli.specs.Active.{active_of};
 ghost use Rattle.rows.specs.Step.{step_answer_of};
 ghost use Rattle.kernels.specs.Kernel.{rotation_kernel_of};
@@ -29,9 +29,9 @@ pub fn rotate_contiguous_active(
     c: f64,
     s: f64,
 ) -> StepAnswer
-    ensures { let S = state re im in
-        let did = rotating (active_of pauli) (bit_of sign) c s S.entry in
-        (step_answer_of result ≡ did.answer) × (S.exit ≡ did.lent) }
+    ensures { let S = state_of re.old im.old in
+        let did = rotating (active_of pauli) (bit_of sign) c s S in
+        (step_answer_of result ≡ did.answer) × (state_of re.new im.new ≡ did.lent) }
 {
     match PrecomputedActivePauliRotationKernel::new(pauli, c, s) {
         RotationKernelAnswer::Refused(row) => StepAnswer::Refused(row),
@@ -47,10 +47,10 @@ fn rotate_in_room(
     sign: bool,
 ) -> StepAnswer
     requires { Rotatable (rotation_kernel_of kernel) }
-    ensures { let S = state re im in
-        let row = room_row (room kernel.action.nqubits S.entry) in
-        let did = by_row row finished (by_kernel (rotation_kernel_of kernel) (bit_of sign) S.entry) S.entry in
-        (step_answer_of result ≡ did.answer) × (S.exit ≡ did.lent) }
+    ensures { let S = state_of re.old im.old in
+        let row = room_row (room kernel.action.nqubits S) in
+        let did = by_row row finished (by_kernel (rotation_kernel_of kernel) (bit_of sign) S) S in
+        (step_answer_of result ≡ did.answer) × (state_of re.new im.new ≡ did.lent) }
 {
     let nqubits = kernel.action.nqubits;
     let row = rows::room_row(rows::has_room(re, im, nqubits));
@@ -63,8 +63,8 @@ fn rotate_in_room(
 
 // By the loop for the kernel's case.
 fn rotate(re: &mut [f64], im: &mut [f64], kernel: PrecomputedActivePauliRotationKernel, sign: bool)
-    requires { Rotatable (rotation_kernel_of kernel) × Room kernel.action.nqubits re im }
-    ensures { (state re im).exit ≡ by_kernel (rotation_kernel_of kernel) (bit_of sign) (state re im).entry }
+    requires { Rotatable (rotation_kernel_of kernel) × Room kernel.action.nqubits re.old im.old }
+    ensures { state_of re.new im.new ≡ by_kernel (rotation_kernel_of kernel) (bit_of sign) (state_of re.old im.old) }
 {
     let n = kernel.action.nqubits;
     let x = kernel.action.xmask;

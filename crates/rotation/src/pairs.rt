@@ -7,10 +7,10 @@ ghost use Rattle.bitlaws.specs.Opening.{open_bit};
 ghost use Rattle.bitlaws.specs.Parity.{overlap};
 ghost use Rattle.amplitudelaws.specs.Arithmetic.{direction, scale, mixed};
 ghost use Rattle.amplitudelaws.specs.Binary.{binary};
-ghost use Rattle.amplitudelaws.specs.Lent.{state, Room, In};
+ghost use Rattle.amplitudelaws.specs.Lent.{Room, In};
 ghost use Rattle.amplitudelaws.specs.Rotation.{rotated_with, rotated_uniform, rotated_pairs};
 ghost use Rattle.amplitudelaws.specs.Rows.{widest_kernel};
-ghost use Rattle.amplitudelaws.specs.State.{point, set_point, written};
+ghost use Rattle.amplitudelaws.specs.State.{point, set_point, written, state_of};
 ghost use Rattle.complex.specs.Complex.{complex_of};
 
 use bits::Opened;
@@ -39,9 +39,9 @@ pub(crate) fn rotate_uniform_imag_pairs(
     c: f64,
     m: Complex64,
 )
-    requires { Pivoted nqubits pair_bit xmask × (nqubits ≤ widest_kernel) × Room nqubits re im }
-    ensures { let S = (state re im).entry in
-        (state re im).exit ≡ written nqubits (rotated_uniform binary xmask (bit_of sign) c (complex_of m) (point S)) S }
+    requires { Pivoted nqubits pair_bit xmask × (nqubits ≤ widest_kernel) × Room nqubits re.old im.old }
+    ensures { let S = state_of re.old im.old in
+        state_of re.new im.new ≡ written nqubits (rotated_uniform binary xmask (bit_of sign) c (complex_of m) (point S)) S }
 {
     let t = complex::negated(sign, m);
     let half = 1usize << (nqubits - 1);
@@ -54,11 +54,11 @@ pub(crate) fn rotate_uniform_imag_pairs(
 }
 
 fn rotate_imag_pair(re: &mut [f64], im: &mut [f64], left: usize, right: usize, c: f64, t: Complex64)
-    requires { In left re im × In right re im }
-    ensures { let S = (state re im).entry in
+    requires { In left re.old im.old × In right re.old im.old }
+    ensures { let S = state_of re.old im.old in
         let a = rotated_with binary c (complex_of t) (point S left) (point S right) in
         let b = rotated_with binary c (complex_of t) (point S right) (point S left) in
-        (state re im).exit ≡ set_point right b (set_point left a S) }
+        state_of re.new im.new ≡ set_point right b (set_point left a S) }
 {
     let p = Complex64 {
         re: re[left],
@@ -88,9 +88,9 @@ pub(crate) fn rotate_pairs(
     c: f64,
     m: Complex64,
 )
-    requires { Pivoted nqubits pair_bit xmask × (nqubits ≤ widest_kernel) × Room nqubits re im }
-    ensures { let S = (state re im).entry in
-        (state re im).exit ≡ written nqubits (rotated_pairs binary xmask zmask (bit_of sign) c (complex_of m) (point S)) S }
+    requires { Pivoted nqubits pair_bit xmask × (nqubits ≤ widest_kernel) × Room nqubits re.old im.old }
+    ensures { let S = state_of re.old im.old in
+        state_of re.new im.new ≡ written nqubits (rotated_pairs binary xmask zmask (bit_of sign) c (complex_of m) (point S)) S }
 {
     let half = 1usize << (nqubits - 1);
     let mut k = 0;
@@ -123,11 +123,11 @@ fn rotate_pair(
     to_left: Complex64,
     to_right: Complex64,
 )
-    requires { In left re im × In right re im }
-    ensures { let S = (state re im).entry in
+    requires { In left re.old im.old × In right re.old im.old }
+    ensures { let S = state_of re.old im.old in
         let a = mixed binary c (complex_of to_left) (point S left) (point S right) in
         let b = mixed binary c (complex_of to_right) (point S right) (point S left) in
-        (state re im).exit ≡ set_point right b (set_point left a S) }
+        state_of re.new im.new ≡ set_point right b (set_point left a S) }
 {
     let p = Complex64 {
         re: re[left],

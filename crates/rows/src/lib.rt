@@ -7,8 +7,7 @@ ghost use Rattle.std.specs.Float.Ieee.Scale.{finite};
 ghost use Rattle.answers.specs.Row as table;
 ghost use Rattle.activepauli.specs.Active.{active_of};
 ghost use Rattle.amplitudelaws.specs.Binary.{in_unit};
-ghost use Rattle.amplitudelaws.specs.State.{room};
-ghost use Rattle.amplitudelaws.specs.Lent.{state};
+ghost use Rattle.amplitudelaws.specs.State.{room, state_of};
 ghost use Rattle.amplitudelaws.specs.Rows.{width_row, promoted_width_row, hermitian_row, unit_row, rotation_kernel_row};
 ghost use Rattle.amplitudelaws.specs.Rows.{pivot_mask, pivot_row, measurement_row, room_row};
 
@@ -61,7 +60,7 @@ pub fn is_finite(value: f64) -> bool
 
 // Whether both lists have room for the amplitudes of this many qubits.
 pub fn has_room(re: &[f64], im: &[f64], nqubits: usize) -> bool
-    ensures { result ≡ room nqubits (state re im).entry }
+    ensures { result ≡ room nqubits (state_of re.now im.now) }
 {
     is_enough(re.len(), nqubits) & is_enough(im.len(), nqubits)
 }

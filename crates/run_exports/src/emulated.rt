@@ -1,9 +1,9 @@
 // Reading, checking, running, carrying, seeking, folding, reporting, logging, judging and serving for the emulator, a board of six
 // qubits: a start over six, or a promotion at six, is refused by 21.
 // The service's ledger counts none of its runs, and is handed back as it was.
+ghost use Rattle.amplitudelaws.specs.Memory.{memory_of};
 ghost use Rattle.std.specs.Prelude.{◌≡◌, false};
 ghost use Rattle.paulilaws.specs.Pauli.{identity};
-ghost use Rattle.amplitudelaws.specs.Lent.{memory};
 ghost use Rattle.framelaws.specs.Caller.{emulator};
 ghost use Rattle.runlaws.specs.Reading.{read_at};
 ghost use Rattle.runlaws.specs.Calls.{checking, running, carrying, seeking, folding, reporting, logging, judging};
@@ -52,9 +52,9 @@ pub extern "C" fn naribhush_run_emulated(
     scratch_re: &mut [f64],
     scratch_im: &mut [f64],
 ) -> SeenEnding
-    ensures { let m = memory re im scratch_re scratch_im in
-        let did = running emulator run.now m.entry in
-        Seen result.verdict (seen_ending_of result) no_ending did.answer × (m.exit ≡ did.lent) }
+    ensures { let m = memory_of re.old im.old scratch_re.old scratch_im.old in
+        let did = running emulator run.now m in
+        Seen result.verdict (seen_ending_of result) no_ending did.answer × (memory_of re.new im.new scratch_re.new scratch_im.new ≡ did.lent) }
 {
     seen::ending(runner::run_emulated(run, re, im, scratch_re, scratch_im))
 }
@@ -127,11 +127,11 @@ pub extern "C" fn naribhush_serve_emulated(
     scratch_re: &mut [f64],
     scratch_im: &mut [f64],
 ) -> SeenServed
-    ensures fact { let m = memory re im scratch_re scratch_im in
-        let did = running emulator run.now m.entry in
-        Seen result.ending.verdict (seen_ending_of result.ending) no_ending did.answer × (m.exit ≡ did.lent) }
-    ensures ledger_value { let m = memory re im scratch_re scratch_im in
-        let call : history.Call = record { run = run.entry.now; memory = m.entry } in
+    ensures fact { let m = memory_of re.old im.old scratch_re.old scratch_im.old in
+        let did = running emulator run.now m in
+        Seen result.ending.verdict (seen_ending_of result.ending) no_ending did.answer × (memory_of re.new im.new scratch_re.new scratch_im.new ≡ did.lent) }
+    ensures ledger_value { let m = memory_of re.old im.old scratch_re.old scratch_im.old in
+        let call : history.Call = record { run = run.entry.now; memory = m } in
         ledger_of result.ledger ≡ history.after (history.emulating call) (ledger_of ledger) }
 {
     let served = ledger.serve_emulated(run, re, im, scratch_re, scratch_im);

@@ -9,9 +9,9 @@ pub mod emulated;
 pub mod given;
 pub mod seen;
 
+ghost use Rattle.amplitudelaws.specs.Memory.{memory_of};
 ghost use Rattle.std.specs.Prelude.{◌≡◌, false};
 ghost use Rattle.paulilaws.specs.Pauli.{identity};
-ghost use Rattle.amplitudelaws.specs.Lent.{memory};
 ghost use Rattle.framelaws.specs.Caller.{service, service_within};
 ghost use Rattle.runlaws.specs.Reading.{read_at};
 ghost use Rattle.runlaws.specs.Calls.{checking, running, carrying, seeking, folding, reporting, logging, judging};
@@ -73,9 +73,9 @@ pub extern "C" fn naribhush_run(
     scratch_re: &mut [f64],
     scratch_im: &mut [f64],
 ) -> SeenEnding
-    ensures { let m = memory re im scratch_re scratch_im in
-        let did = running service run.now m.entry in
-        Seen result.verdict (seen_ending_of result) no_ending did.answer × (m.exit ≡ did.lent) }
+    ensures { let m = memory_of re.old im.old scratch_re.old scratch_im.old in
+        let did = running service run.now m in
+        Seen result.verdict (seen_ending_of result) no_ending did.answer × (memory_of re.new im.new scratch_re.new scratch_im.new ≡ did.lent) }
 {
     seen::ending(runner::run_contiguous(run, re, im, scratch_re, scratch_im))
 }
@@ -177,11 +177,11 @@ pub extern "C" fn naribhush_serve(
     scratch_re: &mut [f64],
     scratch_im: &mut [f64],
 ) -> SeenServed
-    ensures fact { let m = memory re im scratch_re scratch_im in
-        let did = running service run.now m.entry in
-        Seen result.ending.verdict (seen_ending_of result.ending) no_ending did.answer × (m.exit ≡ did.lent) }
-    ensures ledger_value { let m = memory re im scratch_re scratch_im in
-        let call : history.Call = record { run = run.entry.now; memory = m.entry } in
+    ensures fact { let m = memory_of re.old im.old scratch_re.old scratch_im.old in
+        let did = running service run.now m in
+        Seen result.ending.verdict (seen_ending_of result.ending) no_ending did.answer × (memory_of re.new im.new scratch_re.new scratch_im.new ≡ did.lent) }
+    ensures ledger_value { let m = memory_of re.old im.old scratch_re.old scratch_im.old in
+        let call : history.Call = record { run = run.entry.now; memory = m } in
         ledger_of result.ledger ≡ history.after (history.serving call) (ledger_of ledger) }
 {
     let served = ledger.serve(run, re, im, scratch_re, scratch_im);

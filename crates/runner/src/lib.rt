@@ -1,11 +1,11 @@
 // Running: the steps of a run on lent amplitudes, one after the other. The run is checked whole first, so
 // that a refused run leaves all four buffers as they were.
 #![tactic(auto)]
+ghost use Rattle.amplitudelaws.specs.Memory.{memory_of};
 ghost use Rattle.std.specs.Prelude.{◌≡◌, ◌&&◌};
 ghost use Rattle.answers.specs.Answer.Answer.{accepted};
 ghost use Rattle.amplitudelaws.specs.Rows.{room_row};
 ghost use Rattle.amplitudelaws.specs.State.{room_for, room};
-ghost use Rattle.amplitudelaws.specs.Lent.{memory, lent_memory};
 ghost use Rattle.framelaws.specs.Caller.{service, emulator};
 ghost use Rattle.framelaws.specs.Memory.{stepped};
 ghost use Rattle.runlaws.specs.Calls.{CheckedRun, checking_with_start, running};
@@ -35,9 +35,9 @@ pub fn run_contiguous(
     scratch_re: &mut [f64],
     scratch_im: &mut [f64],
 ) -> RunAnswer
-    ensures { let m = memory re im scratch_re scratch_im in
-        let did = running service run.now m.entry in
-        (run_answer_of result ≡ did.answer) × (m.exit ≡ did.lent) }
+    ensures { let m = memory_of re.old im.old scratch_re.old scratch_im.old in
+        let did = running service run.now m in
+        (run_answer_of result ≡ did.answer) × (memory_of re.new im.new scratch_re.new scratch_im.new ≡ did.lent) }
 {
     run_for(run, re, im, scratch_re, scratch_im, Caller::service())
 }
@@ -50,9 +50,9 @@ pub fn run_emulated(
     scratch_re: &mut [f64],
     scratch_im: &mut [f64],
 ) -> RunAnswer
-    ensures { let m = memory re im scratch_re scratch_im in
-        let did = running emulator run.now m.entry in
-        (run_answer_of result ≡ did.answer) × (m.exit ≡ did.lent) }
+    ensures { let m = memory_of re.old im.old scratch_re.old scratch_im.old in
+        let did = running emulator run.now m in
+        (run_answer_of result ≡ did.answer) × (memory_of re.new im.new scratch_re.new scratch_im.new ≡ did.lent) }
 {
     run_for(run, re, im, scratch_re, scratch_im, Caller::Emulator)
 }
@@ -65,9 +65,9 @@ fn run_for(
     scratch_im: &mut [f64],
     caller: Caller,
 ) -> RunAnswer
-    ensures { let m = memory re im scratch_re scratch_im in
-        let did = running (caller_of caller) run.now m.entry in
-        (run_answer_of result ≡ did.answer) × (m.exit ≡ did.lent) }
+    ensures { let m = memory_of re.old im.old scratch_re.old scratch_im.old in
+        let did = running (caller_of caller) run.now m in
+        (run_answer_of result ≡ did.answer) × (memory_of re.new im.new scratch_re.new scratch_im.new ≡ did.lent) }
 {
     match checker::check_with_start(run, caller) {
         Checked::Refused(row, at) => RunAnswer::RefusedAt(row, at),
@@ -90,9 +90,9 @@ fn run_checked(
 ) -> RunAnswer
     requires { let checked : CheckedRun = record { start = start; survey = survey_fields_of survey } in
         checking_with_start (caller_of caller) run.now ≡ accepted checked }
-    ensures { let m = memory re im scratch_re scratch_im in
-        let did = running (caller_of caller) run.now m.entry in
-        (run_answer_of result ≡ did.answer) × (m.exit ≡ did.lent) }
+    ensures { let m = memory_of re.old im.old scratch_re.old scratch_im.old in
+        let did = running (caller_of caller) run.now m in
+        (run_answer_of result ≡ did.answer) × (memory_of re.new im.new scratch_re.new scratch_im.new ≡ did.lent) }
 {
     let row = memory_row(
         re,
@@ -121,7 +121,7 @@ fn memory_row(
     greatest: usize,
     scratch: usize,
 ) -> u8
-    ensures { let m = (memory re im scratch_re scratch_im).entry in
+    ensures { let m = memory_of re.now im.now scratch_re.now scratch_im.now in
         result ≡ room_row (room greatest m.state && room_for scratch m.scratch) }
 {
     let states = rows::has_room(re, im, greatest);
@@ -140,9 +140,9 @@ fn run_steps(
     caller: Caller,
     width: usize,
 )
-    requires { RunReady (caller_of caller) run.now width (lent_memory re im scratch_re scratch_im) }
-    ensures { let m = memory re im scratch_re scratch_im in
-        m.exit ≡ (running (caller_of caller) run.now m.entry).lent }
+    requires { RunReady (caller_of caller) run.now width (memory_of re.old im.old scratch_re.old scratch_im.old) }
+    ensures { let m = memory_of re.old im.old scratch_re.old scratch_im.old in
+        memory_of re.new im.new scratch_re.new scratch_im.new ≡ (running (caller_of caller) run.now m).lent }
 {
     let mut cursor = Cursor {
         at: fields::START_BYTES,
@@ -167,9 +167,9 @@ fn take_step(
     scratch_re: &mut [f64],
     scratch_im: &mut [f64],
 )
-    requires { StepReady width (step_of step) (lent_memory re im scratch_re scratch_im) }
-    ensures { let m = memory re im scratch_re scratch_im in
-        m.exit ≡ stepped width (step_of step) m.entry }
+    requires { StepReady width (step_of step) (memory_of re.old im.old scratch_re.old scratch_im.old) }
+    ensures { let m = memory_of re.old im.old scratch_re.old scratch_im.old in
+        memory_of re.new im.new scratch_re.new scratch_im.new ≡ stepped width (step_of step) m }
 {
     match step {
         Step::Rotation(pauli, sign, c, s) => {

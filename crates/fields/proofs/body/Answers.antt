@@ -29,5 +29,11 @@ overflow_add-result c = let p = placed _ _ c.field.ensures c.in-Whole.is in omeg
 pub slice_bounds-result-count-2 : goal.slice_bounds-result-count-2
 slice_bounds-result-count-2 c = (placed _ _ c.field.ensures c.in-Whole.is).starts
 
+pub slice_bounds-result-start-2 : goal.slice_bounds-result-start-2
+slice_bounds-result-start-2 c = (placed _ _ c.field.ensures c.in-Whole.is).starts
+
+pub slice_bounds-result-end-2 : goal.slice_bounds-result-end-2
+slice_bounds-result-end-2 c = (placed _ _ c.field.ensures c.in-Whole.is).ends
+
 pub returns : goal.returns
 returns c = (placed _ _ c.field.ensures c.in-Whole.is).held

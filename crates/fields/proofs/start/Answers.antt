@@ -16,9 +16,6 @@ pub returns-then-held-ne1 : goal.returns-then-held-ne1
 returns-then-held-ne1 c =
     start_size _ _ _ _ _ (ap field_answer_of (sym c.in-Whole.is) ∙ c.field.ensures) c.body-held.ensures c.if-tag-ne-START.false c.if-held-ne1.true
 
-pub overflow_cast-width : goal.overflow_cast-width
-overflow_cast-width c = search (rules, c.shared_slice_known-2-1.given 0)
-
 pub returns : goal.returns
 returns c =
     start_good _ _ _ _ _ (ap field_answer_of (sym c.in-Whole.is) ∙ c.field.ensures) c.body-held.ensures c.if-tag-ne-START.false c.if-held-ne1.false

@@ -32,4 +32,4 @@ passed-behind-requires c = suits (goal.at.passed-behind-requires c).Else-row-ne0
 pub returns : goal.returns
 unfolding past_call
 returns c =
-    rw (c.Carried-step.ensures, c.passed-behind.ensures) (sym (answered_none _ _ (no_row (goal.at.returns c).Else-row-ne0)))
+    rw (c.carried_step-left.ensures, c.passed-behind.ensures) (sym (answered_none _ _ (no_row (goal.at.returns c).Else-row-ne0)))

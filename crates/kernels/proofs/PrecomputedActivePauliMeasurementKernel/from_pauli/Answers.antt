@@ -6,10 +6,6 @@ use Rattle.kernels.proofs.DefaultPivot.{default_answered}
 use borrow.Author.Rules.{rules}
 use Rattle.kernels.proofs.PrecomputedActivePauliMeasurementKernel.from_pauli.Goals as goal
 
-  statement,
-}
-use Rattle.kernels.proofs.PrecomputedActivePauliMeasurementKernel.from_pauli.Tie as tie
-
 pub returns : goal.returns
 returns c =
     let M = active_of c.args.pauli in

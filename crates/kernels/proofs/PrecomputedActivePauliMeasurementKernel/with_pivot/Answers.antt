@@ -9,10 +9,6 @@ use Rattle.amplitudelaws.specs.Rows.{hermitian_row, measurement_row, widest_kern
 use borrow.Author.Rules.{rules}
 use Rattle.kernels.proofs.PrecomputedActivePauliMeasurementKernel.with_pivot.Goals as goal
 
-  statement,
-}
-use Rattle.kernels.proofs.PrecomputedActivePauliMeasurementKernel.with_pivot.Tie as tie
-
 pub returns-then-row-ne0 : goal.returns-then-row-ne0
 returns-then-row-ne0 c = rw (← c.measurement_row-row.ensures) (sym (answered_some c.measurement_row-row.result _ (omega arith)))
 

@@ -56,12 +56,6 @@ loop-b-preserved c =
           (ap (raised binary a.q) same ∙ sym (promoted_high binary n a.c a.q F t)),
     )
 
-pub shape_of-re : goal.shape_of-re
-shape_of-re c = c.loop-b.invariant.1.re.len
-
-pub shape_of-im : goal.shape_of-im
-shape_of-im c = c.loop-b.invariant.1.im.len
-
 pub returns : goal.returns
 returns c =
     let n = c.args.nqubits in

@@ -1,0 +1,61 @@
+-- the amplitude that is made of the parts
+-- the basis, which does not reach the word's end
+use mathlib.Core.Path.{◌≡◌, sym}
+use mathlib.Core.Bool.{Bool, false}
+use Prim.Native.Nat.{ℕ, ◌+◌, ◌%◌, ◌^◌, ◌<◌}
+use native.Mathlib.Omega.{arith}
+use lib.Bits.{bit_xor}
+use lib.Dec.{eqb}
+use lib.Ieee.{Float, nan_bits}
+use Rattle.bitlaws.specs.Digit.{bit_of}
+use Rattle.bitlaws.specs.Opening.{open_bit}
+use Rattle.bitlaws.specs.Parity.{overlap}
+use Rattle.statelaws.specs.Pairs.{low_lt, high_lt}
+use Rattle.amplitudelaws.specs.Arithmetic.{mixed, scale, direction}
+use Rattle.amplitudelaws.specs.Binary.{binary, Point}
+use Rattle.amplitudelaws.specs.State.{state_of, point}
+use Rattle.kernels.specs.Kernel.{MeasurementKernel, measurement_kernel_of}
+use Rattle.measurement.specs.Measured.{kernel_remaining}
+use Rattle.measurement.proofs.Opened.{opened}
+use Rattle.measurement.proofs.Leaving.{pivot_low, output_low, mixing_left, mixing_pivoted}
+use borrow.Author.Rules.{rules}
+use Rattle.measurement.proofs.mixing.mixture.Goals as goal
+use Rattle.measurement.proofs.mixing.mixture.Goals.{After-differs_from_parity-odd, After-opened_at-source0}
+
+module _ (K : MeasurementKernel) (v : Bool) (F : ℕ → Point) (j : ℕ) (d : K.diagonal ≡ false)
+    (b : ℕ) (o : b ≡ open_bit K.pivot j) (t : Bool) (odd : t ≡ eqb ((bit_of v + overlap b K.action.z) % 2) 1) where
+  made : (s : Float) (w p q a : Point) → s ≡ direction binary (bit_of t) → w ≡ scale binary s K.coefficient → p ≡ F b → q ≡ F (bit_xor b K.action.x)
+      → a ≡ mixed binary binary.h w p q → a ≡ kernel_remaining K (bit_of v) F j
+  made s w p q a es ew ep eq ea = rw (ea, ew, es, ep, eq) (sym (mixing_left K v F j d b o t odd))
+
+pub opened_at-source0-requires : goal.opened_at-source0-requires
+opened_at-source0-requires c = let m = c.requires.0 in omega (arith, pivot_low m)
+
+basis : (c : After-opened_at-source0) → let a = c.args in c.opened_at-source0.result ≡ open_bit a.kernel.pivot a.j
+basis c =
+    let m = c.requires.0 in
+    opened c.args.kernel.pivot c.args.j (pivot_low m) (output_low m c.args.j c.requires.2) c.opened_at-source0.result c.opened_at-source0.ensures
+
+pub float_from_bits-mixed : goal.float_from_bits-mixed
+unfolding nan_bits
+float_from_bits-mixed c = tt
+
+pub read-requires : goal.read-requires
+read-requires c =
+    let low = low_lt (mixing_pivoted c.requires.0 c.requires.1) c.args.j c.requires.2 in
+    omega (arith, low, basis (goal.at.read-requires c).After-differs_from_parity-odd, c.requires.3.0, c.requires.3.1)
+
+pub read-requires-2 : goal.read-requires-2
+read-requires-2 c =
+    let a = c.args in
+    let high : bit_xor c.opened_at-source0.result a.kernel.action.xmask < 2 ^ a.kernel.action.nqubits
+    = rw (basis (goal.at.read-requires-2 c).After-differs_from_parity-odd) (high_lt (mixing_pivoted c.requires.0 c.requires.1) a.j c.requires.2) in
+    omega (arith, high, c.requires.3.0, c.requires.3.1)
+
+pub returns : goal.returns
+returns c =
+    let a = c.args in
+    made (measurement_kernel_of a.kernel) a.branch (point (state_of a.re.now a.im.now)) a.j c.requires.1
+    c.opened_at-source0.result (basis (goal.at.returns c).After-differs_from_parity-odd) c.differs_from_parity-odd.result c.differs_from_parity-odd.ensures
+    c.direction.result _ _ _ _
+    c.direction.ensures c.scale-w.ensures c.read.ensures c.read-2.ensures c.mixed.ensures

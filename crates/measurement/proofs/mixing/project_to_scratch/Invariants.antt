@@ -1,0 +1,21 @@
+use mathlib.Core.Path.{◌≡◌, ap, ◌∙◌}
+use Prim.Native.Nat.{ℕ, ◌-◌, ◌^◌, ◌≤◌, ◌<◌}
+use native.Mathlib.Omega.{arith}
+use lib.Ieee.{Float}
+use Rattle.bitlaws.specs.Digit.{bit_of}
+use Rattle.amplitudelaws.specs.Arithmetic.{scaled}
+use Rattle.amplitudelaws.specs.Binary.{binary, Point}
+use Rattle.amplitudelaws.specs.State.{State, state_of, point}
+use Rattle.amplitudelaws.specs.Sweeping.{Sweeping, sweeping_none, one_more, one_all}
+use Rattle.kernels.specs.Kernel.{MeasurementKernel, measurement_kernel_of}
+use Rattle.measurement.specs.Measured.{kernel_remaining, kernel_projected}
+use Rattle.measurement.proofs.mixing.project_to_scratch.Given as goal
+
+abbrev pub invariant-loop-j : goal.invariant-loop-j
+invariant-loop-j l =
+    let n = l.kernel.action.nqubits - 1 in
+    (l.j ≤ 2 ^ n)
+    × Sweeping (λ b. b) (kernel_projected (measurement_kernel_of l.kernel) (bit_of l.branch) l.invnorm (state_of l.re l.im)) n (state_of l.initial.scratch_re l.initial.scratch_im) l.j (state_of l.scratch_re l.scratch_im)
+
+abbrev pub decreases-loop-j : goal.decreases-loop-j
+decreases-loop-j l = l.kernel.out_dim - l.j

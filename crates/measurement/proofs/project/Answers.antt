@@ -15,7 +15,7 @@ use Rattle.measurement.proofs.Leaving.{room_half}
 use Rattle.measurement.proofs.Passing.{memory_same}
 use borrow.Author.Rules.{rules}
 use Rattle.measurement.proofs.project.Goals as goal
-use Rattle.measurement.proofs.project.Goals.{After-project_to_scratch, After-project_to_scratch-arg-1}
+use Rattle.measurement.proofs.project.Goals.{After-project_to_scratch}
 
 module _ (n : ℕ) (F : ℕ → Point) (T T' : State) (e : T' ≡ written n F T) (h : HasRoom n T) where
   room_written : HasRoom n T'
@@ -46,23 +46,23 @@ returns-then-kernel c =
 pub project_to_scratch-requires : goal.project_to_scratch-requires
 project_to_scratch-requires c =
     let pre = c.requires in
-    (pre.0, c.if1.false, pre.1, pre.2 c.if1.false)
+    (pre.0, c.if-kernel.false, pre.1, pre.2 c.if-kernel.false)
 
 made_room : (c : After-project_to_scratch) → let n = c.args.kernel.action.nqubits in
     HasRoom (n - 1) (state_of c.project_to_scratch.new.scratch_re c.project_to_scratch.new.scratch_im)
 made_room c =
     let pre = c.requires in
-    room_written _ _ _ _ c.project_to_scratch.ensures (pre.2 c.if1.false)
+    room_written _ _ _ _ c.project_to_scratch.ensures (pre.2 c.if-kernel.false)
 
 pub copy_back-requires : goal.copy_back-requires
 copy_back-requires c =
     let a = c.args in
     let half = room_half a.kernel.action.nqubits (state_of a.re.now a.im.now) c.requires.1 in
-    (omega (arith, c.requires.0.narrow), half, made_room (goal.at.copy_back-requires c).After-project_to_scratch-arg-1)
+    (omega (arith, c.requires.0.narrow), half, made_room (goal.at.copy_back-requires c).After-project_to_scratch)
 
 pub returns : goal.returns
 returns c =
     let pre = c.requires in
     memory_same
-    (c.copy_back.ensures ∙ copied _ _ _ _ c.project-to-scratch.ensures (pre.2 c.if1.false) _)
-    (c.project-to-scratch.ensures ∙ sym (scratch_mixed _ _ _ _ _ c.if1.false))
+    (c.copy_back.ensures ∙ copied _ _ _ _ c.project_to_scratch.ensures (pre.2 c.if-kernel.false) _)
+    (c.project_to_scratch.ensures ∙ sym (scratch_mixed _ _ _ _ _ c.if-kernel.false))

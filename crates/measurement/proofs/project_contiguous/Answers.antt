@@ -14,9 +14,9 @@ use Rattle.measurement.specs.Rows.{kernel_row}
 use Rattle.measurement.proofs.Passing.{row_projectable, projection_refused, projection_passed, kernel_memory_lem}
 use borrow.Author.Rules.{rules}
 use Rattle.measurement.proofs.project_contiguous.Goals as goal
-use Rattle.measurement.proofs.project_contiguous.Goals.{In-Kernel-2}
+use Rattle.measurement.proofs.project_contiguous.Goals.{In-Kernel}
 
-accepts : (c : In-Kernel-2) → let a = c.args in
+accepts : (c : In-Kernel) → let a = c.args in
     let M = active_of a.pauli in
     (measurement_row M a.pivot false ≡ 0) × (measurement_kernel_of c.in-Kernel.kernel ≡ measurement_kernel M a.pivot)
 accepts c = accepted_row _ _ _ (ap measurement_kernel_answer_of (sym c.in-Kernel.is) ∙ c.with_pivot.ensures)
@@ -24,7 +24,7 @@ accepts c = accepted_row _ _ _ (ap measurement_kernel_answer_of (sym c.in-Kernel
 pub project_in_room-requires : goal.project_in_room-requires
 project_in_room-requires c =
     let a = c.args in
-    subst Projectable (sym (accepts (goal.at.project_in_room-requires c).In-Kernel-2).1) (row_projectable (active_of a.pauli) a.pivot (accepts (goal.at.project_in_room-requires c).In-Kernel-2).0)
+    subst Projectable (sym (accepts (goal.at.project_in_room-requires c).In-Kernel).1) (row_projectable (active_of a.pauli) a.pivot (accepts (goal.at.project_in_room-requires c).In-Kernel).0)
 
 pub returns-in-Refused : goal.returns-in-Refused
 returns-in-Refused c =
@@ -39,7 +39,7 @@ returns-in-Kernel c =
     let a = c.args in
     let M = active_of a.pauli in
     let m = memory_of a.re.now a.im.now a.scratch_re.now a.scratch_im.now in
-    let made = accepts (goal.at.returns-in-Kernel c).In-Kernel-2 in
+    let made = accepts (goal.at.returns-in-Kernel c).In-Kernel in
     let row = ap (λ (K : MeasurementKernel). kernel_row K a.invnorm m) made.1 ∙ projection_passed M a.pivot a.invnorm m made.0 in
     let memory = kernel_memory_lem M a.pivot _ made.1 (bit_of a.branch) a.invnorm m in (
       c.project_in_room.ensures.0 ∙ ap (λ (r : ℕ). answered r finished) row,

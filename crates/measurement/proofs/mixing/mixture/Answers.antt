@@ -20,7 +20,7 @@ use Rattle.measurement.proofs.Opened.{opened}
 use Rattle.measurement.proofs.Leaving.{pivot_low, output_low, mixing_left, mixing_pivoted}
 use borrow.Author.Rules.{rules}
 use Rattle.measurement.proofs.mixing.mixture.Goals as goal
-use Rattle.measurement.proofs.mixing.mixture.Goals.{After-differs_from_parity-odd, After-opened_at-source0}
+use Rattle.measurement.proofs.mixing.mixture.Goals.{After-opened_at-source0}
 
 module _ (K : MeasurementKernel) (v : Bool) (F : ℕ → Point) (j : ℕ) (d : K.diagonal ≡ false)
     (b : ℕ) (o : b ≡ open_bit K.pivot j) (t : Bool) (odd : t ≡ eqb ((bit_of v + overlap b K.action.z) % 2) 1) where
@@ -43,19 +43,19 @@ float_from_bits-mixed c = tt
 pub read-requires : goal.read-requires
 read-requires c =
     let low = low_lt (mixing_pivoted c.requires.0 c.requires.1) c.args.j c.requires.2 in
-    omega (arith, low, basis (goal.at.read-requires c).After-differs_from_parity-odd, c.requires.3.0, c.requires.3.1)
+    omega (arith, low, basis (goal.at.read-requires c).After-opened_at-source0, c.requires.3.0, c.requires.3.1)
 
 pub read-requires-2 : goal.read-requires-2
 read-requires-2 c =
     let a = c.args in
     let high : bit_xor c.opened_at-source0.result a.kernel.action.xmask < 2 ^ a.kernel.action.nqubits
-    = rw (basis (goal.at.read-requires-2 c).After-differs_from_parity-odd) (high_lt (mixing_pivoted c.requires.0 c.requires.1) a.j c.requires.2) in
+    = rw (basis (goal.at.read-requires-2 c).After-opened_at-source0) (high_lt (mixing_pivoted c.requires.0 c.requires.1) a.j c.requires.2) in
     omega (arith, high, c.requires.3.0, c.requires.3.1)
 
 pub returns : goal.returns
 returns c =
     let a = c.args in
     made (measurement_kernel_of a.kernel) a.branch (point (state_of a.re.now a.im.now)) a.j c.requires.1
-    c.opened_at-source0.result (basis (goal.at.returns c).After-differs_from_parity-odd) c.differs_from_parity-odd.result c.differs_from_parity-odd.ensures
+    c.opened_at-source0.result (basis (goal.at.returns c).After-opened_at-source0) c.differs_from_parity-odd.result c.differs_from_parity-odd.ensures
     c.direction.result _ _ _ _
     c.direction.ensures c.scale-w.ensures c.read.ensures c.read-2.ensures c.mixed.ensures

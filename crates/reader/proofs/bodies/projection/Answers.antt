@@ -13,7 +13,7 @@ use Rattle.reader.specs.Meaning.{float_answer_of}
 use Rattle.reader.proofs.Judging.{judged_refused, projection_pauli, projection_nan, projection_row_lem, projection_width, projection_step}
 use borrow.Author.Rules.{rules}
 use Rattle.reader.proofs.bodies.projection.Goals as goal
-use Rattle.reader.proofs.bodies.projection.Goals.{After-first-row, After-hermitian_row-hermitian, In-Float-2}
+use Rattle.reader.proofs.bodies.projection.Goals.{After-first-row, After-hermitian_row-hermitian, In-Float}
 
 pauli_row : (c : After-hermitian_row-hermitian) → let a = c.args in
     c.hermitian_row-hermitian.result ≡ hermitian_row widest_kernel (pauli_at a.cursor.width a.body.now)
@@ -37,13 +37,13 @@ returns-in_default c =
 pub overflow_cast-pivot : goal.overflow_cast-pivot
 overflow_cast-pivot c = search (rules, c.shared_slice_known-2-1.given 17)
 
-norm : (c : In-Float-2) → c.in-Float.invnorm ≡ float_at c.args.body.now 19
+norm : (c : In-Float) → c.in-Float.invnorm ≡ float_at c.args.body.now 19
 norm c = ap float_answer_of (sym c.in-Float.is) ∙ c.float.ensures
 
 step_row_lem : (c : After-first-row) → let a = c.args in
     c.first-row.result ≡ projection_step_row (pauli_at a.cursor.width a.body.now) (byte_at a.body.now 17) (byte_at a.body.now 18) (float_at a.body.now 19)
 step_row_lem c =
-    projection_row_lem _ _ _ _ c.pauli-pauli.ensures (c.is_finite.ensures ∙ ap finite (norm (goal.at.None c).In-Float-2)) c.measurement_row.ensures c.row.ensures c.first-row.ensures
+    projection_row_lem _ _ _ _ c.pauli-pauli.ensures (c.is_finite.ensures ∙ ap finite (ap float_answer_of (sym c.in-Float.is) ∙ c.float.ensures)) c.measurement_row.ensures c.row.ensures c.first-row.ensures
 
 pub returns-then-row-ne0 : goal.returns-then-row-ne0
 unfolding judged step_row
@@ -59,5 +59,5 @@ pub returns : goal.returns
 unfolding judged step_row
 returns c =
     let a = c.args in
-    λ caller. projection_step _ _ _ _ (cursor_of a.cursor) a.next c.pauli-pauli.ensures (norm (goal.at.returns c).In-Float-2)
+    λ caller. projection_step _ _ _ _ (cursor_of a.cursor) a.next c.pauli-pauli.ensures (norm (goal.at.returns c).In-Float)
     (sym (step_row_lem (goal.at.returns c).After-first-row) ∙ c.if-row-ne0.false)

@@ -14,7 +14,7 @@ use Rattle.reader.specs.Meaning.{float_answer_of}
 use Rattle.reader.proofs.Judging.{judged_refused, nan_first, nan_second, promotion_width, promotion_unit, promotion_limit, promotion_passed, promotion_step}
 use borrow.Author.Rules.{rules}
 use Rattle.reader.proofs.bodies.promotion.Goals as goal
-use Rattle.reader.proofs.bodies.promotion.Goals.{After-unit_row-unit, Else-too_wide-ne0, In-Float-2, In-Float-float-2}
+use Rattle.reader.proofs.bodies.promotion.Goals.{After-unit_row-unit, Else-too_wide-ne0, In-Float, In-Float-float}
 
 pub returns-then-too_wide-ne0 : goal.returns-then-too_wide-ne0
 unfolding judged step_row
@@ -40,16 +40,16 @@ returns-in_default-float c =
     let eight = nan_second _ _ (ap float_answer_of (sym c.in_default-float.is) ∙ c.float-2.ensures) in
     judged_refused _ (cursor_of a.cursor) a.next _ _ (promotion_unit _ _ _ _ (narrow (goal.at.returns-in_default-float c).Else-too_wide-ne0) _ (sym eight) (lit< tt)) (lit< tt)
 
-cosine : (c : In-Float-2) → c.in-Float.c ≡ float_at c.args.body.now 0
+cosine : (c : In-Float) → c.in-Float.c ≡ float_at c.args.body.now 0
 cosine c = ap float_answer_of (sym c.in-Float.is) ∙ c.float.ensures
 
-coefficient : (c : In-Float-float-2) → c.in-Float-float.q ≡ float_at c.args.body.now 8
+coefficient : (c : In-Float-float) → c.in-Float-float.q ≡ float_at c.args.body.now 8
 coefficient c = ap float_answer_of (sym c.in-Float-float.is) ∙ c.float-2.ensures
 
 unit_row_lem : (c : After-unit_row-unit) → let body = c.args.body.now in
     c.unit_row-unit.result ≡ unit_row (float_at body 0) (float_at body 8)
 unit_row_lem c =
-    c.unit_row-unit.ensures ∙ ap₂ unit_row (cosine (goal.at.None c).In-Float-2) (coefficient (goal.at.None c).In-Float-float-2)
+    c.unit_row-unit.ensures ∙ ap₂ unit_row (ap float_answer_of (sym c.in-Float.is) ∙ c.float.ensures) (ap float_answer_of (sym c.in-Float-float.is) ∙ c.float-2.ensures)
 
 pub returns-then-unit-ne0 : goal.returns-then-unit-ne0
 unfolding judged step_row
@@ -72,4 +72,4 @@ returns c =
     let a = c.args in
     let none = promotion_passed (caller_of a.caller) a.cursor.width _ _ (narrow (goal.at.returns c).Else-too_wide-ne0) (sym (unit_row_lem (goal.at.returns c).After-unit_row-unit) ∙ c.if-unit-ne0.false)
     (omega (arith, c.widest.ensures)) in
-    promotion_step _ _ _ _ (cursor_of a.cursor) a.next (cosine (goal.at.returns c).In-Float-2) (coefficient (goal.at.returns c).In-Float-float-2) none
+    promotion_step _ _ _ _ (cursor_of a.cursor) a.next (cosine (goal.at.returns c).In-Float) (coefficient (goal.at.returns c).In-Float-float) none

@@ -1,4 +1,5 @@
 -- `checker::check_with_start` meets its contract.
+-- the start width beside the survey
 use mathlib.Core.Path.{◌≡◌, sym, ap, ◌∙◌}
 use mathlib.Core.List.{List}
 use mathlib.Core.Option.{some}
@@ -6,7 +7,6 @@ use Prim.Native.Nat.{ℕ, ◌≤◌, ◌<◌}
 use native.Mathlib.Omega.{arith}
 use lib.Ieee.{Float}
 use lib.ListN.{length}
-use borrow.Author.Rules.{rules}
 use Rattle.answers.specs.Answer.{Answer}
 use Rattle.answers.specs.Answer.Answer.{refused_at}
 use Rattle.amplitudelaws.specs.Step.{Step}
@@ -19,8 +19,8 @@ use Rattle.runlaws.specs.Mapped.{mapped_mapped}
 use Rattle.runlaws.specs.WholeRun.{start_read, run_too_wide, run_begun}
 use Rattle.fields.proofs.Started.{started, unstarted}
 use Rattle.checker.specs.Meaning.{check_answer_of}
-use Rattle.checker.proofs.check_with_start.Statement.{statement}
-use Rattle.checker.proofs.check_with_start.Tie as tie
+use borrow.Author.Rules.{rules}
+use Rattle.checker.proofs.check_with_start.Goals as goal
 
 unbegun : (caller : Caller) (s : List ℕ) → run_of caller s ≡ refused_at 14 0 → refused_at 14 0 ≡ checking_with_start caller s
 unfolding checking_with_start mapped
@@ -31,7 +31,6 @@ too_wide : (caller : Caller) (s : List ℕ) (n : ℕ) → length s ≤ most_byte
 unfolding checking_with_start mapped
 too_wide caller s n short e wide = sym (ap (mapped checked_run_of) (run_too_wide caller s short n e wide))
 
--- the start width beside the survey
 beside : ℕ → Survey → CheckedRun
 beside n v = record { start = n; survey = v }
 
@@ -46,71 +45,27 @@ begun caller s n short e within a is =
     ∙ mapped_mapped (beside n) (survey n) steps
     ∙ sym (ap (mapped checked_run_of) (run_begun caller s short n e within) ∙ mapped_mapped checked_run_of whole steps)
 
-start-requires : tie.Need-start-requires
-start-requires c κs = search rules
+pub returns-in_default : goal.returns-in_default
+returns-in_default c = unbegun _ _ (unstarted _ c.start.ensures c.in_default.is _)
 
-enum-known-width : tie.Need-enum-known-width
-enum-known-width c = search rules
+pub returns-then-widest-width : goal.returns-then-widest-width
+returns-then-widest-width c =
+    let begins = started _ c.start.ensures c.in-Width.is in
+    rw c.start_row.ensures (too_wide _ _ _ begins.0 begins.1 (omega (arith, c.widest.ensures)))
 
-enum_told : tie.Need-enum-told
-enum_told c = search rules
-
-returns : tie.Need-returns
-returns c = unbegun _ _ (unstarted _ c.before.before.start.ensures c.enum_told.given.1 _)
-
-widest-requires : tie.Need-widest-requires
-widest-requires c κs = search rules
-
-start-row-requires : tie.Need-start-row-requires
-start-row-requires c κs = search rules
-
-returns-2 : tie.Need-returns-2
-returns-2 c =
-    let limit = c.before.before in
-    let begins = started _ limit.before.before.before.before.start.ensures limit.before.before.width.given.1 in
-    rw c.start-row.ensures (too_wide _ _ _ begins.0 begins.1 (omega (arith, limit.widest.ensures)))
-
-survey-steps-requires : tie.Need-survey-steps-requires
-survey-steps-requires c κs =
-    let limit = c.before in
-    let begins = started _ limit.before.before.before.before.start.ensures limit.before.before.width.given.1 in
+pub survey_steps-requires : goal.survey_steps-requires
+survey_steps-requires c =
+    let begins = started _ c.start.ensures c.in-Width.is in
     ((start_read _ _ begins.1).begins, begins.0)
 
-enum-known-row : tie.Need-enum-known-row
-enum-known-row c = search rules
-
-enum-known-survey : tie.Need-enum-known-survey
-enum-known-survey c = search rules
-
-returns-3 : tie.Need-returns-3
+pub returns-in-Refused : goal.returns-in-Refused
 unfolding mapped beside
-returns-3 c =
-    let walked = c.before.before.before in
-    let limit = walked.before.before in
-    let begins = started _ limit.before.before.before.before.start.ensures limit.before.before.width.given.1 in
-    begun _ _ _ begins.0 begins.1 (omega (arith, limit.widest.ensures)) _ (ap check_answer_of (sym c.before.row.given.1) ∙ walked.survey_steps.ensures)
+returns-in-Refused c =
+    let begins = started _ c.start.ensures c.in-Width.is in
+    begun _ _ _ begins.0 begins.1 (omega (arith, c.widest.ensures)) _ (ap check_answer_of (sym c.in-Refused.is) ∙ c.survey_steps.ensures)
 
-returns-4 : tie.Need-returns-4
+pub returns-in-Run : goal.returns-in-Run
 unfolding mapped beside
-returns-4 c =
-    let walked = c.before.before.before in
-    let limit = walked.before.before in
-    let begins = started _ limit.before.before.before.before.start.ensures limit.before.before.width.given.1 in
-    begun _ _ _ begins.0 begins.1 (omega (arith, limit.widest.ensures)) _ (ap check_answer_of (sym c.before.survey.given.1) ∙ walked.survey_steps.ensures)
-
-pub check-with-start-spec : {M : Type 1} → statement M
-check-with-start-spec =
-    tie.close
-    (tie.spec
-    start-requires
-    enum-known-width
-    enum_told
-    returns
-    widest-requires
-    start-row-requires
-    returns-2
-    survey-steps-requires
-    enum-known-row
-    enum-known-survey
-    returns-3
-    returns-4)
+returns-in-Run c =
+    let begins = started _ c.start.ensures c.in-Width.is in
+    begun _ _ _ begins.0 begins.1 (omega (arith, c.widest.ensures)) _ (ap check_answer_of (sym c.in-Run.is) ∙ c.survey_steps.ensures)

@@ -1,7 +1,6 @@
 -- `checker::ended` meets its contract, kind by kind of read.
 use mathlib.Core.Path.{◌≡◌}
 use Prim.Native.Nat.{ℕ, ◌<◌, ◌≤◌}
-use borrow.Author.Rules.{rules}
 use borrow.Author.Tests.{lt-ltb, le-ltb}
 use Rattle.answers.specs.Answer.Answer.{accepted, refused_at}
 use Rattle.framelaws.specs.Survey.{Survey}
@@ -11,8 +10,8 @@ use Rattle.steps.specs.declared.Read.{Read}
 use Rattle.steps.specs.declared.Read.TheVariants as read
 use Rattle.steps.specs.Meaning.{read_of}
 use Rattle.checker.specs.Surveyed.{ended_by}
-use Rattle.checker.proofs.ended.Statement.{statement}
-use Rattle.checker.proofs.ended.Tie as tie
+use borrow.Author.Rules.{rules}
+use Rattle.checker.proofs.ended.Goals as goal
 
 module _ (size : ℕ) (v : Survey) {got : Read} where
   at_refusal : (n at : ℕ) → got ≡ read.Refused n at → refused_at n at ≡ ended_by size (read_of got) v
@@ -31,28 +30,14 @@ module _ (size : ℕ) (v : Survey) {got : Read} where
   unfolding ended_by
   at_step t d e = rw e
 
-enum-known-got : tie.Need-enum-known-got
-enum-known-got c = search rules
+pub returns-then-last-size : goal.returns-then-last-size
+returns-then-last-size c = past_end _ _ _ c.in-End.is c.if-last-size.true
 
-enum-known-got-2 : tie.Need-enum-known-got-2
-enum-known-got-2 c = search rules
+pub returns-in-Refused : goal.returns-in-Refused
+returns-in-Refused c = at_refusal _ _ _ _ c.in-Refused.is
 
-returns : tie.Need-returns
-returns c = past_end _ _ _ c.before.before.before.got2.given.1 c.if1.true
+pub returns-else-last-size : goal.returns-else-last-size
+returns-else-last-size c = at_end _ _ _ c.in-End.is c.if-last-size.false
 
-enum-known-got-3 : tie.Need-enum-known-got-3
-enum-known-got-3 c = search rules
-
-returns-2 : tie.Need-returns-2
-returns-2 c = at_refusal _ _ _ _ c.before.got.given.1
-
-returns-3 : tie.Need-returns-3
-returns-3 c = at_end _ _ _ c.before.before.before.got2.given.1 c.if1.false
-
-returns-4 : tie.Need-returns-4
-returns-4 c = at_step _ _ _ _ c.before.got3.given.1
-
-pub ended-spec : {M : Type 1} → statement M
-ended-spec =
-    tie.close
-    (tie.spec enum-known-got enum-known-got-2 returns enum-known-got-3 returns-2 returns-3 returns-4)
+pub returns-in-Step : goal.returns-in-Step
+returns-in-Step c = at_step _ _ _ _ c.in-Step.is

@@ -12,6 +12,7 @@ use Rattle.callers.specs.Meaning.{caller_of}
 use Rattle.steps.specs.Meaning.{cursor_of, step_of, read_of}
 use Rattle.checker.specs.Meaning.{survey_fields_of}
 use Rattle.checker.proofs.Surveying.{Surveying, at_start, moves, surveyable, one_more, no_step_lem}
+use borrow.Enum.Refused.{opened}
 use borrow.Author.Rules.{rules}
 use Rattle.checker.proofs.survey_steps.Goals as goal
 use Rattle.checker.proofs.survey_steps.Goals.{In-Step}
@@ -21,7 +22,7 @@ loop-step-init c = at_start _ _ _ c.requires.0 c.requires.1
 
 pub returns-in_default : goal.returns-in_default
 returns-in_default c =
-    c.ended.ensures ∙ no_step_lem c.loop-step.invariant c.read-got.result c.read-got.ensures c.in_default.in_default-own.keys2
+    c.ended.ensures ∙ no_step_lem c.loop-step.invariant c.read-got.result c.read-got.ensures (opened c.in_default.in_default-own.keys2)
 
 step_got : (c : In-Step) → let a = c.args in
     read_at (caller_of a.caller) a.run.now (cursor_of c.loop-step.cursor) ≡ step_read (step_of c.in-Step.step) (cursor_of c.in-Step.next)

@@ -1,0 +1,7 @@
+use Rattle.amplitudelaws.specs.State.{room_for}
+use borrow.Author.Rules.{rules}
+use Rattle.runner.proofs.memory_row.Goals as goal
+
+pub returns : goal.returns
+unfolding room_for
+returns c = rw (← c.has_room-states.ensures) c.room_row.ensures

@@ -1,0 +1,18 @@
+use mathlib.Core.Path.{sym, ap, ◌∙◌}
+use Rattle.amplitudelaws.specs.Lent.{lent_memory}
+use Rattle.callers.specs.Meaning.{caller_of}
+use Rattle.checker.specs.Meaning.{checked_of}
+use Rattle.runner.proofs.Outcomes.{runs_refused}
+use borrow.Author.Rules.{rules}
+use Rattle.runner.proofs.run_for.Goals as goal
+
+pub run_checked-requires : goal.run_checked-requires
+run_checked-requires c =
+    sym c.check_with_start.ensures ∙ ap checked_of c.in-Run.is
+
+pub returns-in-Refused : goal.returns-in-Refused
+returns-in-Refused c =
+    let a = c.args in
+    let m = lent_memory a.re a.im a.scratch_re a.scratch_im in
+    runs_refused (caller_of a.caller) a.run.now m _ _
+    (sym c.check_with_start.ensures ∙ ap checked_of c.in-Refused.is)

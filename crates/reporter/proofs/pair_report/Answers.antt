@@ -9,19 +9,12 @@ use Rattle.paulilaws.specs.AntiMask.{anti_mask, anti_mask_lem}
 use Rattle.framelaws.specs.Reporting.{pair_report}
 use Rattle.framelaws.specs.Reporting.Report.{flagged}
 use borrow.Author.Rules.{rules}
-use Rattle.reporter.proofs.pair_report.Statement.{statement}
-use Rattle.reporter.proofs.pair_report.Tie as tie
+use Rattle.reporter.proofs.pair_report.Goals as goal
 
 reported : (Q P : Pauli) (odd : Bool) → Q.x < 2 ^ 64 → Q.z < 2 ^ 64 → odd ≡ eqb (parity (anti_mask Q P)) 1 → flagged odd (anti_mask Q P) ≡ pair_report Q P
 unfolding pair_report parity
 reported Q P odd hx hz is = ap (λ (t : Bool). flagged t (anti_mask Q P)) (is ∙ ap (λ (n : ℕ). eqb n 1) (anti_mask_lem 64 Q P hx hz).odd)
 
-is-odd-popcount-requires : tie.Need-is-odd-popcount-requires
-is-odd-popcount-requires c κs = search rules
-
-returns : tie.Need-returns
+pub returns : goal.returns
 unfolding anti_mask
-returns c = reported _ _ _ (search rules) (search rules) c.is-odd-popcount.ensures
-
-pub pair-report-spec : {M : Type 1} → statement M
-pair-report-spec = tie.close (tie.spec is-odd-popcount-requires returns)
+returns c = reported _ _ _ (search rules) (search rules) c.is_odd_popcount.ensures

@@ -8,7 +8,8 @@ use Rattle.answers.specs.Answer.Answer.{accepted, refused}
 use Rattle.answers.specs.Row.{accepted_same, refused_accepted}
 use Rattle.bitlaws.specs.Digit.{digit}
 use Rattle.paulilaws.specs.Pauli.{Pauli, fits, hermitian, product, anti}
-use Rattle.paulilaws.specs.Fitting.{Fitting, Admitted, admitted_fits, admitted_beside}
+use Rattle.paulilaws.specs.Fitting.{Fitting, Admitted, admitted_beside}
+use Rattle.paulilaws.proofs.Fitting.{admitted_fits}
 use Rattle.paulilaws.specs.Frame.{raised, dropped}
 use Rattle.paulis.specs.Calls.{on_pauli, bit_call}
 use Rattle.paulis.specs.Rows.{a_pauli, a_qubit}

@@ -13,7 +13,6 @@ pub mod Sweeping
 pub mod Pairing
 pub mod Step
 pub mod Acting
-pub mod Near
 pub mod Valued
 pub mod Steps
 pub mod Rows

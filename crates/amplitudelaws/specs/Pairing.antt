@@ -6,7 +6,8 @@ use Rattle.std.specs.Int.Bits.{bit_xor}
 use Rattle.bitlaws.specs.Opening.{open_bit}
 use Rattle.bitlaws.specs.Pairs.{pair_of}
 use Rattle.bitlaws.specs.Xor.{xor_twice}
-use Rattle.statelaws.specs.Pairs.{Pivoted, low_lt, high_lt}
+use Rattle.statelaws.specs.Pairs.{Pivoted}
+use Rattle.statelaws.proofs.Pairs.{low_lt, high_lt}
 use Rattle.amplitudelaws.specs.Binary.{Point}
 use Rattle.amplitudelaws.specs.Rows.{widest_kernel}
 use Rattle.amplitudelaws.specs.State.{State, point, set_point}

@@ -1,7 +1,6 @@
 -- The promotion of a qubit: the state times c|0> + i q|1>, the new qubit being the highest.
-use Rattle.std.specs.Prelude.{◌≡◌, cond, ℕ, ◌+◌, ◌-◌, ◌^◌, ◌<◌, ltb}
-use native.Mathlib.Omega.{arith}
-use Rattle.std.proofs.Common.{lt-ltb, le-ltb}
+use Rattle.std.specs.Prelude.{◌≡◌, cond, ℕ, ◌-◌, ◌^◌, ◌<◌, ltb}
+use Rattle.std.proofs.Common.{lt-ltb}
 use Rattle.amplitudelaws.specs.Arithmetic.{Amplitude, Arithmetic, scale}
 
 module _ {R : Type 0} (A : Arithmetic R) where
@@ -19,7 +18,3 @@ module _ {R : Type 0} (A : Arithmetic R) where
     pub promoted_low : b < 2 ^ n → promoted n c q F b ≡ scale A c (F b)
     unfolding promoted
     promoted_low h = rw (lt-ltb b (2 ^ n) h)
-
-    pub promoted_high : promoted n c q F (2 ^ n + b) ≡ raised q (F b)
-    unfolding promoted
-    promoted_high = let less : 2 ^ n + b - 2 ^ n ≡ b = omega arith in rw (le-ltb (2 ^ n + b) (2 ^ n) (omega arith), less)

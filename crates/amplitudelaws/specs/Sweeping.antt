@@ -5,10 +5,11 @@ use Rattle.std.specs.Int.Bits.{bit_xor}
 use Rattle.std.specs.Float.{nan}
 use Rattle.bitlaws.specs.Opening.{open_bit}
 use Rattle.bitlaws.specs.Pairs.{pair_of}
-use Rattle.statelaws.specs.Sweep.{Swept, swept_none, rising_next, rising_ahead, rising_all}
-use Rattle.statelaws.specs.Pairs.{Pivoted, low_ahead, high_ahead, swept_pair, swept_pairs}
+use Rattle.statelaws.specs.Sweep.{Swept, swept_none, rising_next, rising_ahead}
+use Rattle.statelaws.specs.Pairs.{Pivoted}
+use Rattle.statelaws.proofs.Pairs.{low_ahead, high_ahead, swept_pair}
 use Rattle.amplitudelaws.specs.Binary.{Point}
-use Rattle.amplitudelaws.specs.State.{State, point, set_point, written}
+use Rattle.amplitudelaws.specs.State.{State, point, set_point}
 
 pub state_same : {S T : State} → S.re ≡ T.re → S.im ≡ T.im → S ≡ T
 state_same r i = λ j. record { re = r j; im = i j }
@@ -38,10 +39,6 @@ module _ {F : ℕ → Point} {n : ℕ} {S₀ : State} {t : ℕ} {S : State} (s :
     im = rising_next s.im S'.im a.im (ap (λ (T : State). T.im) e) h (ap (λ (p : Point). p.im) ea);
   }
 
-  pub one_all : t ≡ 2 ^ n → S ≡ written n F S₀
-  unfolding written
-  one_all e = state_same (rising_all s.re e) (rising_all s.im e)
-
 -- two amplitudes a turn: the pair of the basis t without the pivot
 module _ {n p x : ℕ} (v : Pivoted n p x) {F : ℕ → Point} {S₀ : State} {t : ℕ} {S : State} (s : Sweeping (pair_of p x) F n S₀ t S) where
   module _ (h : t < 2 ^ (n - 1)) where
@@ -60,7 +57,3 @@ module _ {n p x : ℕ} (v : Pivoted n p x) {F : ℕ → Point} {S₀ : State} {t
       re = swept_pair v s.re h S'.re a.re b.re (ap (λ (T : State). T.re) e) (ap (λ (q : Point). q.re) ea) (ap (λ (q : Point). q.re) eb);
       im = swept_pair v s.im h S'.im a.im b.im (ap (λ (T : State). T.im) e) (ap (λ (q : Point). q.im) ea) (ap (λ (q : Point). q.im) eb);
     }
-
-  pub pair_all : t ≡ 2 ^ (n - 1) → S ≡ written n F S₀
-  unfolding written
-  pair_all e = state_same (swept_pairs v s.re e) (swept_pairs v s.im e)

@@ -5,11 +5,9 @@ pub mod Xor
 pub mod Parity
 pub mod Opening
 pub mod Writing
-pub mod Pivot
 pub mod Source
 pub mod Pairs
 pub mod Words
 pub mod Highest
 pub mod Elimination
 pub mod Eliminated
-pub mod LinearWords

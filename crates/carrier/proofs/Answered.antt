@@ -17,7 +17,7 @@ use Rattle.runlaws.specs.Calls.{on_run, checked_run_of, checking_with_start, car
 use Rattle.runlaws.specs.Mapped.{mapped_refused}
 use Rattle.runlaws.specs.OnStart.{run_in, OnStart, checked_read, checked_start}
 use Rattle.runlaws.specs.Outcomes.{carrying_passed}
-use Rattle.runlaws.specs.Flagged.{carried_append}
+use Rattle.runlaws.proofs.Flagged.{carried_append}
 
 -- ---- the answers
 

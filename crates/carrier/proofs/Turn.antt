@@ -9,7 +9,7 @@ use Rattle.amplitudelaws.specs.Step.{Step}
 use Rattle.framelaws.specs.Caller.{Caller}
 use Rattle.framelaws.specs.Carrying.{carried_step, passed, carried_steps, end_pauli}
 use Rattle.runlaws.specs.Flags.{field_size, flag_at, flagged}
-use Rattle.runlaws.specs.Flagged.{carried_size}
+use Rattle.runlaws.proofs.Flagged.{carried_size}
 use Rattle.runlaws.specs.Going.{Gone, Passing, passing_outset, passing_step, all_passed}
 use Rattle.runlaws.specs.Reading.{Cursor}
 use Rattle.runlaws.specs.OnStart.{run_in, OnStart}

@@ -15,7 +15,7 @@ use Rattle.answers.specs.Answer.{Answer}
 use Rattle.answers.specs.Answer.Answer.{accepted, refused_at}
 use Rattle.answers.specs.Row.{row, first_passed}
 use Rattle.amplitudelaws.specs.Rows.{measurement_row}
-use Rattle.amplitudelaws.specs.Passed.{measurement_passed}
+use Rattle.amplitudelaws.proofs.Passed.{measurement_passed}
 use Rattle.framelaws.specs.Caller.{Caller}
 use Rattle.framelaws.specs.Allowed.{Placed}
 use Rattle.framelaws.specs.Rows.{step_row, projection_step_row}

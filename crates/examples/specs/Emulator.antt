@@ -20,7 +20,7 @@ use Rattle.framelaws.specs.Caller.{service_within, service, emulator}
 use Rattle.framelaws.specs.Memory.{Memory, memory_of}
 use Rattle.framelaws.specs.Rows.{step_row, rotation_step_row, promotion_step_row, projection_step_row}
 use Rattle.framelaws.specs.Survey.{Survey, mixed_amplitudes, surveyed, survey_from, survey}
-use Rattle.runlaws.specs.Agreement.{on_the_board}
+use Rattle.runlaws.proofs.Agreement.{on_the_board}
 use Rattle.runlaws.specs.Bytes.{number, float_at, pauli_at}
 use Rattle.runlaws.specs.Field.{body_length, is_whole, field_at}
 use Rattle.runlaws.specs.Frame.{Agreeing}

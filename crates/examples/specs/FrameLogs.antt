@@ -22,12 +22,12 @@ use Rattle.framelaws.specs.PassRow.{placed_row}
 use Rattle.framelaws.specs.Rows.{step_row, rotation_step_row, promotion_step_row, projection_step_row}
 use Rattle.runlaws.specs.Bytes.{byte_at, number, float_at, pauli_at}
 use Rattle.runlaws.specs.Calls.{Outcome, carrying_row, carrying, on_run, of_run, logging, judging_row, judging}
-use Rattle.runlaws.specs.CarriedFields.{step_of}
+use Rattle.runlaws.proofs.CarriedFields.{step_of}
 use Rattle.runlaws.specs.Field.{body_length, is_whole, field_at}
 use Rattle.runlaws.specs.Flags.{field_size, fields_size}
 use Rattle.runlaws.specs.FrameLog.{flag_of, flags_of, frame_log, is_same}
 use Rattle.runlaws.specs.FrameLogs.{flag_count, Agrees, Asked, FrameLogs}
-use Rattle.runlaws.specs.Judging.{frame_logs_at_the_service, frame_logs_at_the_emulator}
+use Rattle.runlaws.proofs.Judging.{frame_logs_at_the_service, frame_logs_at_the_emulator}
 use Rattle.runlaws.specs.NumberBytes.{bytes_of}
 use Rattle.runlaws.specs.PauliBytes.{pauli_bytes}
 use Rattle.runlaws.specs.Reading.{decoded, unless, judged_by, judged, read_field, read_at}

@@ -41,7 +41,7 @@ use Rattle.runlaws.specs.Run.{Run, mapped, ended, follow, walk, start_width, beg
 use Rattle.runlaws.specs.Flags.{field_size, flag_at, flagged}
 use Rattle.runlaws.specs.Calls.{Ending, Outcome, on_run, survey_of, memory_row, running, carrying_row, carried_run, carrying}
 use Rattle.runlaws.specs.Frame.{SameNumbers, Agreeing, FiniteRun, fired, sent, Frame}
-use Rattle.runlaws.specs.Theorem.{frame_at_the_service}
+use Rattle.runlaws.proofs.Theorem.{frame_at_the_service}
 use Rattle.examples.specs.Runs as bytes
 use Rattle.examples.specs.Runs.{one}
 

@@ -16,7 +16,8 @@ use Rattle.amplitudelaws.specs.Step.Step.{rotation, promotion, projection, corre
 use Rattle.amplitudelaws.specs.Acting.{acts, acted}
 use Rattle.amplitudelaws.specs.Book.Ring.{Ring}
 use Rattle.amplitudelaws.specs.Book.Complex.{exact}
-use Rattle.amplitudelaws.specs.Book.Theorem.{Book, book}
+use Rattle.amplitudelaws.specs.Book.Theorem.{Book}
+use Rattle.amplitudelaws.proofs.Book.Theorem.{book}
 
 -- a factor may be reduced first: a is 7 (a / 7) + a % 7
 mod_times : (a b : ℕ) → a % 7 * b % 7 ≡ a * b % 7

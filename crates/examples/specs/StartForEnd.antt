@@ -28,7 +28,7 @@ use Rattle.runlaws.specs.Calls.{Outcome, survey_of, checking, carrying, of_run, 
 use Rattle.runlaws.specs.Field.{body_length, is_whole, field_at}
 use Rattle.runlaws.specs.Reading.{decoded, unless, judged_by, judged, read_field, read_at}
 use Rattle.runlaws.specs.Run.{mapped, ended, follow, walk, start_width, begun, run_of}
-use Rattle.runlaws.specs.Seeking.{start_for_end_at_the_service, start_for_end_at_the_emulator}
+use Rattle.runlaws.proofs.Seeking.{start_for_end_at_the_service, start_for_end_at_the_emulator}
 use Rattle.runlaws.specs.StartForEnd.{StartsFor, NoStart, SomeStart}
 use Rattle.examples.specs.Emulator.{met}
 use Rattle.examples.specs.Instance.{Y, run, output, outcome}

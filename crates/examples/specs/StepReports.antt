@@ -32,7 +32,7 @@ use Rattle.runlaws.specs.Pieces.{end_bytes}
 use Rattle.runlaws.specs.Field.{body_length, is_whole, field_at}
 use Rattle.runlaws.specs.Reading.{decoded, unless, judged_by, judged, read_field, read_at}
 use Rattle.runlaws.specs.Reading.Read.{step_read}
-use Rattle.runlaws.specs.Reporting.{step_reports_at_the_service, step_reports_at_the_emulator}
+use Rattle.runlaws.proofs.Reporting.{step_reports_at_the_service, step_reports_at_the_emulator}
 use Rattle.runlaws.specs.Run.{Run, mapped, chained, ended, follow, walk, start_width, begun, run_of}
 use Rattle.runlaws.specs.StepReports.{SoFar, Reports, Told, Carried, SomeReport}
 use Rattle.examples.specs.Runs as bytes

@@ -26,7 +26,7 @@ use Rattle.runlaws.specs.Calls.{Outcome, on_run, survey_of, checking, carrying_r
 use Rattle.runlaws.specs.Field.{body_length, is_whole, field_at}
 use Rattle.runlaws.specs.Flags.{field_size, flag_at, flagged}
 use Rattle.runlaws.specs.Frame.{sent}
-use Rattle.runlaws.specs.Merging.{two_corrections_at_the_service, two_corrections_at_the_emulator}
+use Rattle.runlaws.proofs.Merging.{two_corrections_at_the_service, two_corrections_at_the_emulator}
 use Rattle.runlaws.specs.Reading.{decoded, unless, judged_by, judged, read_field, read_at}
 use Rattle.runlaws.specs.Run.{mapped, ended, follow, walk, start_width, begun, run_of}
 use Rattle.runlaws.specs.TwoCorrections.{OneCarry, Undone, product_of, InTurn}

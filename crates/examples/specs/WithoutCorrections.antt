@@ -40,7 +40,7 @@ use Rattle.runlaws.specs.Calls.{Outcome, Folding, on_run, survey_of, checking, m
 use Rattle.runlaws.specs.Field.{body_length, is_whole, field_at}
 use Rattle.runlaws.specs.Flags.{field_size, flag_at, FlagIn}
 use Rattle.runlaws.specs.FoldedRun.{kept_of, kept_fields, kept_run, left_bytes, folded_fields, folded_run}
-use Rattle.runlaws.specs.Folding.{without_corrections_at_the_service, without_corrections_at_the_emulator}
+use Rattle.runlaws.proofs.Folding.{without_corrections_at_the_service, without_corrections_at_the_emulator}
 use Rattle.runlaws.specs.Frame.{SameNumbers, Agreeing, FiniteRun, fired, sent}
 use Rattle.runlaws.specs.NumberBytes.{bytes_of}
 use Rattle.runlaws.specs.PauliBytes.{pauli_bytes, correction_field}

@@ -12,7 +12,8 @@ use Rattle.answers.specs.Row.{accepted_same, refused_at_accepted}
 use Rattle.framelaws.specs.Caller.{Caller}
 use Rattle.runlaws.specs.Field.{most_bytes, field_at}
 use Rattle.runlaws.specs.Run.{start_width, run_of}
-use Rattle.runlaws.specs.WholeRun.{run_long, run_unbegun}
+use Rattle.runlaws.specs.WholeRun.{run_long}
+use Rattle.runlaws.proofs.WholeRun.{run_unbegun}
 use Rattle.fields.specs.declared.StartAnswer.{StartAnswer}
 use Rattle.fields.specs.declared.StartAnswer.TheVariants.{Width, NoStart}
 use Rattle.fields.specs.Meaning.{field_in, start_answer_of, start_call}

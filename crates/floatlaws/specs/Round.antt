@@ -1,5 +1,5 @@
 -- Zero rounds to zero, and a float rounded again: what is left of it where a zero is added, or where it is multiplied by one.
-use Rattle.std.specs.Prelude.{◌≡◌, refl, Bool, pos, T, Float}
+use Rattle.std.specs.Prelude.{◌≡◌, refl, Bool, pos, Float}
 use Rattle.std.proofs.Common.{◌∙◌, zero-mul, mul-one, lt_irrefl}
 use Prim.Native.Nat.compare
 use Prim.Native.Nat.{Ordering}
@@ -8,7 +8,6 @@ use Rattle.std.proofs.Math.Nat.{zero-div, zero-mod, zero-sub}
 use Rattle.std.specs.Float.{nan, inf, fin, Format, binary32, binary64}
 use Rattle.std.specs.Float.Ieee.{prec, low, up, down, size, units, round}
 use Rattle.std.specs.Float.Ieee.Fits.{round_is}
-use Rattle.floatlaws.specs.Same.{is_zero}
 
 -- a float rounded to the format f; what is not finite stays
 abbrev pub again : Format → Float → Float
@@ -33,6 +32,3 @@ pub round_zero : (f : Format) (s : Bool) (c : ℕ) → 0 < c → round f s 0 c �
 round_zero f s c h =
     round_is f s 0 c
     ∙ rw (zero-mul (2 ^ low f), zero-div c, size_zero, zero-sub (prec f), mul-one c, zero-div c, zero-mod c, above_zero c h) (units_zero f s)
-
-pub round_none : (f : Format) (s : Bool) (n c : ℕ) → 0 < c → n ≡ 0 → T (is_zero (round f s n c))
-round_none f s n c h e = rw (e, round_zero f s c h) tt

@@ -6,7 +6,7 @@ use Rattle.paulilaws.specs.Fitting.{Fitting, Admitted, admitted_beside}
 use Rattle.amplitudelaws.specs.Step.Step.{correction}
 use Rattle.framelaws.specs.Folding.{fires, folded_by, folded_past}
 use Rattle.framelaws.specs.PassRow.{pass_row}
-use Rattle.framelaws.specs.Suited.{passed_suited}
+use Rattle.framelaws.proofs.Suited.{passed_suited}
 
 module _ (Q P : Pauli) where
   pub fired_pair : pass_row {R = Float} Q (correction P) ≡ 0 → Admitted P × Fitting Q × (P.n ≡ Q.n)

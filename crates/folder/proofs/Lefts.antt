@@ -12,7 +12,7 @@ use Rattle.amplitudelaws.specs.Step.{Step}
 use Rattle.framelaws.specs.Carrying.{carried_step}
 use Rattle.framelaws.specs.Folding.{fires}
 use Rattle.runlaws.specs.Flags.{flag_at}
-use Rattle.runlaws.specs.Flagged.{flag_length}
+use Rattle.runlaws.proofs.Flagged.{flag_length}
 use Rattle.runlaws.specs.FoldedRun.{kept_of, left_bytes}
 
 -- of a step that stays

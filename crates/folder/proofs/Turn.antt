@@ -15,7 +15,7 @@ use Rattle.framelaws.specs.Folding.{one_fired, fires, folded_past, folded_end, c
 use Rattle.runlaws.specs.Field.{most_bytes}
 use Rattle.runlaws.specs.Fields.{step_read_lem, size_ge}
 use Rattle.runlaws.specs.Flags.{field_size}
-use Rattle.runlaws.specs.FoldedBytes.{folded_length}
+use Rattle.runlaws.proofs.FoldedBytes.{folded_length}
 use Rattle.runlaws.specs.FoldedRun.{left_bytes, folded_fields, folded_run}
 use Rattle.runlaws.specs.Going.{Going, Gone, going_outset, going_folded}
 use Rattle.runlaws.specs.OnStart.{run_in}

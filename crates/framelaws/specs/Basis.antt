@@ -3,10 +3,13 @@ use Rattle.std.specs.Prelude.{◌≡◌, ℕ, ◌+◌, ◌*◌, ◌%◌}
 use Rattle.std.proofs.Common.{sym, ap, ap₂, ◌∙◌, arith}
 use Rattle.std.specs.Int.Bits.{bit_xor}
 use Rattle.bitlaws.specs.Digit.{digit}
-use Rattle.bitlaws.specs.Opening.{open_bit, drop_bit, open_drop_clear}
-use Rattle.bitlaws.specs.Parity.{overlap, overlap_lt, overlap_xor_l}
-use Rattle.bitlaws.specs.Pivot.{open_xor, drop_xor, overlap_drop}
-use Rattle.bitlaws.specs.Source.{source, source_drop, source_parity, source_only}
+use Rattle.bitlaws.specs.Opening.{open_bit, drop_bit}
+use Rattle.bitlaws.proofs.Opening.{open_drop_clear}
+use Rattle.bitlaws.specs.Parity.{overlap}
+use Rattle.bitlaws.proofs.Parity.{overlap_lt, overlap_xor_l}
+use Rattle.bitlaws.proofs.Pivot.{open_xor, drop_xor, overlap_drop}
+use Rattle.bitlaws.specs.Source.{source}
+use Rattle.bitlaws.proofs.Source.{source_drop, source_parity, source_only}
 
 -- a mask without the pivot moves the opened basis
 pub open_moves : (p j x : ℕ) → digit p x ≡ 0 → open_bit p (bit_xor j (drop_bit p x)) ≡ bit_xor (open_bit p j) x

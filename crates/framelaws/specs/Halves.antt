@@ -7,10 +7,10 @@ use Rattle.std.specs.Float.Ieee.Fits.{add-fits, mul-fits}
 use Rattle.std.specs.Float.Ieee.Scale.{finite}
 use Rattle.floatlaws.specs.Same.{Same, same, is_zero}
 use Rattle.floatlaws.specs.Sign.{mul_neg_left}
-use Rattle.floatlaws.specs.Sum.{zero_neg, add_neg, add_comm_float, same_add}
-use Rattle.floatlaws.specs.Product.{same_mul, mul_zero_left}
-use Rattle.floatlaws.specs.Fit.{add_none_right, mul_one_fits}
-use Rattle.floatlaws.specs.Rules.{sign_simp, zero_swap}
+use Rattle.floatlaws.proofs.Sum.{zero_neg, add_neg, add_comm_float, same_add}
+use Rattle.floatlaws.proofs.Product.{same_mul, mul_zero_left}
+use Rattle.floatlaws.proofs.Fit.{add_none_right, mul_one_fits}
+use Rattle.floatlaws.proofs.Rules.{sign_simp, zero_swap}
 use Rattle.amplitudelaws.specs.Arithmetic.{power, conjugate, direction, scale, scaled, mixed}
 use Rattle.amplitudelaws.specs.Binary.{Point, binary}
 use Rattle.amplitudelaws.specs.Projection.{projection_coefficient}

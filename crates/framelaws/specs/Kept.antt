@@ -1,16 +1,17 @@
 -- What steps keep of the four buffers, their lengths and so their room, and what is read where amplitudes were written.
-use Rattle.std.specs.Prelude.{◌≡◌, refl, Bool, true, false, List, [], ◌∷◌, ℕ, ◌^◌, ◌≤◌, ◌<◌, eqb, Float, length}
-use Rattle.std.proofs.Common.{◌∙◌, le_trans, lt_of_lt_of_le, pow_mono, le-leb}
+use Rattle.std.specs.Prelude.{◌≡◌, refl, Bool, true, false, ℕ, ◌^◌, ◌≤◌, ◌<◌, eqb, Float, length}
+use Rattle.std.proofs.Common.{le_trans, lt_of_lt_of_le, pow_mono, le-leb}
 use Rattle.std.specs.Float.{nan}
 use Rattle.paulilaws.specs.Pauli.{Pauli}
-use Rattle.statelaws.specs.Over.{length_over, over_at}
+use Rattle.statelaws.specs.Over.{length_over}
+use Rattle.statelaws.proofs.Over.{over_at}
 use Rattle.amplitudelaws.specs.Binary.{Point}
 use Rattle.amplitudelaws.specs.State.{State, point, written, room_for, room}
 use Rattle.amplitudelaws.specs.Passed.{room_lengths}
 use Rattle.amplitudelaws.specs.Steps as leaves
 use Rattle.amplitudelaws.specs.Sweeping.{point_same}
-use Rattle.framelaws.specs.Memory.{Memory, stepped, ran}
-use Rattle.amplitudelaws.specs.Step.{Step, width_after}
+use Rattle.framelaws.specs.Memory.{Memory, stepped}
+use Rattle.amplitudelaws.specs.Step.{Step}
 use Rattle.amplitudelaws.specs.Step.Step.{rotation, promotion, projection, correction, quarter_turn}
 
 -- ---- lengths
@@ -18,9 +19,6 @@ use Rattle.amplitudelaws.specs.Step.Step.{rotation, promotion, projection, corre
 pub record SameLengths (S T : State) : Type 0 where
   pub res : length S.re ≡ length T.re
   pub ims : length S.im ≡ length T.im
-
-lengths_trans : {S T U : State} → SameLengths S T → SameLengths T U → SameLengths S U
-lengths_trans h k = record { res = h.res ∙ k.res; ims = h.ims ∙ k.ims }
 
 -- all four buffers
 pub record SameSizes (m u : Memory) : Type 0 where
@@ -31,7 +29,7 @@ pub written_lengths : (n : ℕ) (F : ℕ → Point) (S : State) → SameLengths 
 unfolding written
 written_lengths n F S = record { res = length_over (2 ^ n) (λ b. (F b).re) S.re; ims = length_over (2 ^ n) (λ b. (F b).im) S.im }
 
-unwritten : {S : State} → SameLengths S S
+pub unwritten : {S : State} → SameLengths S S
 unwritten = record { res = refl; ims = refl }
 
 scratch_lengths : (diagonal : Bool) (M : Pauli) (p v : ℕ) (invnorm : Float) (S scratch : State)
@@ -50,14 +48,6 @@ stepped_sizes n (projection M p v invnorm) m = record {
 }
 stepped_sizes n (correction P) m = record { state = written_lengths _ _ m.state; scratch = unwritten }
 stepped_sizes n (quarter_turn P) m = record { state = written_lengths _ _ m.state; scratch = unwritten }
-
-pub ran_sizes : (n : ℕ) (ts : List (Step Float)) (m : Memory) → SameSizes (ran n ts m) m
-unfolding ran
-ran_sizes n [] m = record { state = unwritten; scratch = unwritten }
-ran_sizes n (t ∷ ts) m =
-    let first = stepped_sizes n t m in
-    let rest = ran_sizes (width_after n t) ts (stepped n t m) in
-    record { state = lengths_trans rest.state first.state; scratch = lengths_trans rest.scratch first.scratch }
 
 -- ---- room
 

@@ -1,6 +1,6 @@
 -- Any Pauli taken past any step: which row of the table refuses it, lowest number first, and else what is behind the step. And which rows refuse a Pauli that is to be
 -- on so many qubits.
-use Rattle.std.specs.Prelude.{◌≡◌, refl, not, ◌&&◌, ℕ, ◌^◌, leb, eqb}
+use Rattle.std.specs.Prelude.{◌≡◌, not, ◌&&◌, ℕ, ◌^◌, leb, eqb}
 use Rattle.answers.specs.Answer.{Answer}
 use Rattle.answers.specs.Row.{row, first, answered}
 use Rattle.paulilaws.specs.Pauli.{Pauli, fits, identity}
@@ -46,33 +46,16 @@ phaseless n = record { n = n; k = 4; x = 0; z = 0 }
 abbrev overhanging : ℕ → Pauli
 overhanging n = record { n = n; k = 0; x = 0; z = 2 ^ n }
 
-record Examples {R : Type 0} (c : R) : Type 0 where
-  carried_first : pass_row {R = R} (phaseless 1) (correction (identity 2)) ≡ 3
-  step_second : pass_row (identity 1) (rotation (overhanging 2) 0 c c) ≡ 3
-  too_wide : pass_row (identity 257) (projection (identity 257) 257 0 c) ≡ 3
-  rotation_widths : pass_row (identity 2) (rotation (identity 3) 0 c c) ≡ 4
-  projection_widths : pass_row (identity 2) (projection (identity 3) 2 0 c) ≡ 4
-  correction_widths : pass_row {R = R} (identity 3) (correction (identity 2)) ≡ 4
-  quarter_turn_widths : pass_row {R = R} (identity 3) (quarter_turn (identity 2)) ≡ 4
-  pivot : pass_row (identity 2) (projection (identity 2) 2 0 c) ≡ 10
-  no_qubit : pass_row (identity 0) (projection (identity 0) 0 0 c) ≡ 10
-  not_promoted : pass_row (overhanging 1) (promotion c c) ≡ 3
-  most : pass_row (identity 256) (promotion c c) ≡ 3
-  one_less : pass_row (identity 255) (promotion c c) ≡ 0
-
-examples : {R : Type 0} (c : R) → Examples c
-unfolding pass_row pair_row widened_row row first fits widened
-examples c = record {
-  carried_first = refl;
-  step_second = refl;
-  too_wide = refl;
-  rotation_widths = refl;
-  projection_widths = refl;
-  correction_widths = refl;
-  quarter_turn_widths = refl;
-  pivot = refl;
-  no_qubit = refl;
-  not_promoted = refl;
-  most = refl;
-  one_less = refl;
-}
+pub record Examples {R : Type 0} (c : R) : Type 0 where
+  pub carried_first : pass_row {R = R} (phaseless 1) (correction (identity 2)) ≡ 3
+  pub step_second : pass_row (identity 1) (rotation (overhanging 2) 0 c c) ≡ 3
+  pub too_wide : pass_row (identity 257) (projection (identity 257) 257 0 c) ≡ 3
+  pub rotation_widths : pass_row (identity 2) (rotation (identity 3) 0 c c) ≡ 4
+  pub projection_widths : pass_row (identity 2) (projection (identity 3) 2 0 c) ≡ 4
+  pub correction_widths : pass_row {R = R} (identity 3) (correction (identity 2)) ≡ 4
+  pub quarter_turn_widths : pass_row {R = R} (identity 3) (quarter_turn (identity 2)) ≡ 4
+  pub pivot : pass_row (identity 2) (projection (identity 2) 2 0 c) ≡ 10
+  pub no_qubit : pass_row (identity 0) (projection (identity 0) 0 0 c) ≡ 10
+  pub not_promoted : pass_row (overhanging 1) (promotion c c) ≡ 3
+  pub most : pass_row (identity 256) (promotion c c) ≡ 3
+  pub one_less : pass_row (identity 255) (promotion c c) ≡ 0

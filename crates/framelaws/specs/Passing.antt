@@ -6,7 +6,8 @@ use Rattle.answers.specs.Row.{row, first, row_passed, first_passed}
 use Rattle.paulilaws.specs.Pauli.{Pauli, hermitian}
 use Rattle.paulilaws.specs.Fitting.{Fitting}
 use Rattle.amplitudelaws.specs.Acting.{Measurable}
-use Rattle.amplitudelaws.specs.Passed.{width_passed, hermitian_passed, hermitian_real, rotation_passed, measurement_passed}
+use Rattle.amplitudelaws.specs.Passed.{width_passed, hermitian_passed, hermitian_real, rotation_passed}
+use Rattle.amplitudelaws.proofs.Passed.{measurement_passed}
 use Rattle.amplitudelaws.specs.Rows.{width_row, hermitian_row, unit_row, rotation_kernel_row, measurement_row, promoted_width_row, widest_kernel}
 use Rattle.amplitudelaws.specs.Step.{Step, width_after}
 use Rattle.amplitudelaws.specs.Step.Step.{rotation, promotion, projection, correction, quarter_turn}

@@ -1,20 +1,19 @@
 -- What a quarter turn of P is: in its rows and in what it leaves the rotation of P with sign 0 whose c and s are both h. But a Pauli goes past
 -- it otherwise: the step stays, and where they anticommute the Pauli becomes another.
 use Rattle.std.specs.Prelude.{◌≡◌, refl, ℕ, Float}
-use Rattle.std.proofs.Common.{sym, ◌∙◌}
 use Rattle.std.specs.Float.Ieee.{of_bits, neg, le, lt, eq}
-use Rattle.answers.specs.Row.{row, first, first_nothing}
+use Rattle.answers.specs.Row.{row}
 use Rattle.paulilaws.specs.Pauli.{Pauli, product, anti}
 use Rattle.paulilaws.specs.Frame.{raised}
 use Rattle.amplitudelaws.specs.Arithmetic.{Amplitude, Arithmetic}
 use Rattle.amplitudelaws.specs.Binary.{binary, in_unit}
-use Rattle.amplitudelaws.specs.Rows.{widest_kernel, hermitian_row, unit_row, rotation_kernel_row}
+use Rattle.amplitudelaws.specs.Rows.{unit_row}
 use Rattle.amplitudelaws.specs.Step.{width_after}
 use Rattle.amplitudelaws.specs.Step.Step.{rotation, quarter_turn}
 use Rattle.amplitudelaws.specs.Acting.{acts}
 use Rattle.framelaws.specs.Caller.{Caller}
-use Rattle.framelaws.specs.Rows.{step_row, rotation_step_row}
-use Rattle.framelaws.specs.Carrying.{turned_by, turned_past, carried_step, passed}
+use Rattle.framelaws.specs.Rows.{step_row}
+use Rattle.framelaws.specs.Carrying.{carried_step, passed}
 use Rattle.framelaws.specs.Memory.{Memory, stepped}
 use Rattle.framelaws.specs.Survey.{mixed_amplitudes}
 
@@ -36,16 +35,3 @@ pub record QuarterTurn (P : Pauli) : Type 1 where
 pub root_unit : unit_row binary.h binary.h ≡ 0
 unfolding unit_row row in_unit le lt eq neg of_bits
 root_unit = refl
-
-pub quarter_turn_is : (P : Pauli) → QuarterTurn P
-unfolding step_row rotation_step_row rotation_kernel_row row acts stepped width_after mixed_amplitudes carried_step passed turned_past turned_by
-quarter_turn_is P = record {
-  rows = λ caller n. let own = hermitian_row widest_kernel P in sym (rw root_unit (first_nothing (first own 0) ∙ first_nothing own));
-  amplitudes = λ A n F. refl;
-  buffers = λ n m. refl;
-  width = λ n. refl;
-  scratch = λ n. refl;
-  stays = λ Q. refl;
-  becomes = λ Q odd. rw odd;
-  passes = λ Q none. rw none;
-}

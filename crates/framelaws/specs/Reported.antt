@@ -2,7 +2,7 @@
 use Rattle.std.proofs.Math.Path.{◌≡◌, refl, ap}
 use mathlib.Core.List.{List, [], ◌∷◌, ◌++◌}
 use Rattle.std.proofs.Math.Option.{none, some}
-use Prim.Native.Nat.{ℕ, zero, suc, ◌≤◌, ◌<◌}
+use Prim.Native.Nat.{ℕ, zero, suc, ◌≤◌}
 use Rattle.std.proofs.Common.{arith}
 use Rattle.std.specs.Prelude.{length}
 use Rattle.std.proofs.Math.ListN.{get_elem?}
@@ -24,19 +24,6 @@ module _ {R : Type 0} where
     pub at : StepAt ts i f.step
     pub frame : f.frame ≡ end_pauli Q at.before
 
-  pub framed_at : (Q : Pauli) (ts : List (Step R)) (i : ℕ) (f : Framed R) → get_elem? (framed_steps Q ts) i ≡ some f → FramedAt Q ts i f
-  unfolding framed_steps end_pauli
-  framed_at Q [] i f e = absurd (let z : ◌≡◌ {A = ℕ} 0 1 = cc in omega arith)
-  framed_at Q (t ∷ ts) zero f e =
-      let is : record { frame = Q; step = t } ≡ f = cc in
-      rw (← is) (record { at = record { before = []; after = ts; steps = refl; number = refl }; frame = refl })
-  framed_at Q (t ∷ ts) (suc i) f e =
-      let k = framed_at (passed Q t) ts i f e in
-      record {
-        at = record { before = t ∷ k.at.before; after = k.at.after; steps = ap (λ (l : List (Step R)). t ∷ l) k.at.steps; number = ap suc k.at.number };
-        frame = k.frame;
-      }
-
   pub framed_none : (Q : Pauli) (ts : List (Step R)) (i : ℕ) → length ts ≤ i → get_elem? (framed_steps Q ts) i ≡ none
   unfolding framed_steps
   framed_none Q [] i h = refl
@@ -47,12 +34,6 @@ module _ {R : Type 0} where
   pub record SomeFramed (Q : Pauli) (ts : List (Step R)) (i : ℕ) : Type 0 where
     pub framed : Framed R
     pub is : get_elem? (framed_steps Q ts) i ≡ some framed
-
-  pub framed_some : (Q : Pauli) (ts : List (Step R)) (i : ℕ) → i < length ts → SomeFramed Q ts i
-  unfolding framed_steps
-  framed_some Q [] i h = absurd (omega arith)
-  framed_some Q (t ∷ ts) zero h = record { framed = record { frame = Q; step = t }; is = refl }
-  framed_some Q (t ∷ ts) (suc i) h = let k = framed_some (passed Q t) ts i (omega arith) in record { framed = k.framed; is = k.is }
 
   -- ---- and of the carried steps the one of that number is the step as this frame leaves it
   pub carried_at : (Q : Pauli) (before : List (Step R)) (t : Step R) (after : List (Step R))

@@ -12,11 +12,12 @@ use Rattle.std.specs.Float.Ieee.{of_bits, neg, add, sub, mul, fits}
 use Rattle.std.specs.Float.Ieee.Fits.{mul-fits}
 use Rattle.std.specs.Float.Ieee.Scale.{finite}
 use Rattle.bitlaws.specs.Digit.{by_digit, mod_two}
-use Rattle.bitlaws.specs.Parity.{overlap, overlap_zero_l, overlap_zero_r}
+use Rattle.bitlaws.specs.Parity.{overlap}
+use Rattle.bitlaws.proofs.Parity.{overlap_zero_l, overlap_zero_r}
 use Rattle.floatlaws.specs.Same.{Same, same, same_sym, is_zero}
-use Rattle.floatlaws.specs.Sum.{zero_neg, same_add, same_sub}
-use Rattle.floatlaws.specs.Product.{same_mul, mul_zero_left}
-use Rattle.floatlaws.specs.Fit.{add_none_right}
+use Rattle.floatlaws.proofs.Sum.{zero_neg, same_add, same_sub}
+use Rattle.floatlaws.proofs.Product.{same_mul, mul_zero_left}
+use Rattle.floatlaws.proofs.Fit.{add_none_right}
 use Rattle.paulilaws.specs.Pauli.{Pauli}
 use Rattle.amplitudelaws.specs.Arithmetic.{power, times, direction, negated, scale, mixed}
 use Rattle.amplitudelaws.specs.Binary.{Point, binary}

@@ -6,9 +6,9 @@ use Rattle.std.specs.Float.Ieee.{neg, add, sub}
 use Rattle.bitlaws.specs.Digit.{by_digit, mod_two}
 use Rattle.floatlaws.specs.Same.{Same, same, same_eq, ◌⨾◌}
 use Rattle.floatlaws.specs.Sign.{neg_neg, mul_neg_left, mul_neg_right}
-use Rattle.floatlaws.specs.Sum.{add_neg, same_add, same_sub}
-use Rattle.floatlaws.specs.Product.{same_mul}
-use Rattle.floatlaws.specs.Rules.{sign_simp}
+use Rattle.floatlaws.proofs.Sum.{add_neg, same_add, same_sub}
+use Rattle.floatlaws.proofs.Product.{same_mul}
+use Rattle.floatlaws.proofs.Rules.{sign_simp}
 use Rattle.amplitudelaws.specs.Arithmetic.{direction, negated, scale, scaled, mixed}
 use Rattle.amplitudelaws.specs.Binary.{Point, binary}
 use Rattle.amplitudelaws.specs.Rotation.{rotated_alone, rotated_with}

@@ -16,7 +16,7 @@ use Rattle.framelaws.specs.Suited.{placed_passed}
 use Rattle.framelaws.specs.Survey.{Survey}
 use Rattle.runlaws.specs.Calls.{on_run, of_run, checked_run_of, checking_with_start, carrying_row, logging, judging_row, judging}
 use Rattle.runlaws.specs.FrameLog.{flags_of, is_same}
-use Rattle.runlaws.specs.Logged.{log_length}
+use Rattle.runlaws.proofs.Logged.{log_length}
 use Rattle.runlaws.specs.Mapped.{mapped_refused}
 use Rattle.runlaws.specs.OnStart.{run_in, OnStart, checked_read, checked_start}
 use Rattle.runlaws.specs.Outcomes.{carrying_passed}

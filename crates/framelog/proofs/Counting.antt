@@ -10,7 +10,7 @@ use Rattle.amplitudelaws.specs.Step.{Step}
 use Rattle.framelaws.specs.Caller.{Caller}
 use Rattle.runlaws.specs.Fields.{step_read_lem, size_ge}
 use Rattle.runlaws.specs.FrameLog.{flag_of, flags_of}
-use Rattle.runlaws.specs.Logged.{flags_step, flags_most}
+use Rattle.runlaws.proofs.Logged.{flags_step, flags_most}
 use Rattle.runlaws.specs.OnStart.{run_in}
 use Rattle.runlaws.specs.Reading.{Cursor, read_at}
 use Rattle.runlaws.specs.Reading.Read.{step_read}

@@ -6,7 +6,7 @@ use native.Mathlib.Omega.{arith}
 use lib.ListN.{length, drop, drop_of_length-le}
 use Rattle.paulilaws.specs.Pauli.{Pauli}
 use Rattle.framelaws.specs.Caller.{Caller}
-use Rattle.runlaws.specs.Logged.{log_length, flags_most}
+use Rattle.runlaws.proofs.Logged.{log_length, flags_most}
 use Rattle.runlaws.specs.OnStart.{run_in, OnStart}
 use Rattle.framelog.specs.LogIn.{log_in}
 

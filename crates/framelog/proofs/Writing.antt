@@ -14,7 +14,7 @@ use Rattle.framelaws.specs.Caller.{Caller}
 use Rattle.framelaws.specs.Carrying.{carried_step, passed}
 use Rattle.runlaws.specs.FrameLog.{flag_of, frame_log}
 use Rattle.runlaws.specs.Going.{Going, Gone, going_outset}
-use Rattle.runlaws.specs.Logged.{flag_most, log_length, log_step, log_end}
+use Rattle.runlaws.proofs.Logged.{flag_most, log_length, log_step, log_end}
 use Rattle.runlaws.specs.OnStart.{run_in, OnStart}
 use Rattle.runlaws.specs.PauliBytes.{pauli_bytes, pauli_length}
 use Rattle.runlaws.specs.Reading.{Cursor}

@@ -3,9 +3,9 @@ use mathlib.Core.Path.{◌≡◌, refl, ap}
 use mathlib.Core.Bool.{Bool, true, false}
 use Prim.Native.Nat.{ℕ, ◌^◌, ◌<◌}
 use Rattle.answers.specs.Row.{row, first, answered}
-use Rattle.bitlaws.specs.Highest.{highest_agree}
+use Rattle.bitlaws.proofs.Highest.{highest_agree}
 use Rattle.paulilaws.specs.Pauli.{Pauli, fits}
-use Rattle.paulilaws.specs.Fitting.{fits_fitting}
+use Rattle.paulilaws.proofs.Fitting.{fits_fitting}
 use Rattle.amplitudelaws.specs.Rows.{width_row, hermitian_row, pivot_mask, measurement_row}
 use Rattle.kernels.specs.Kernel.{or_zero, highest_or_zero, default_pivot, measurement_kernel}
 use Rattle.kernels.specs.Pivot.{mask_below}

@@ -3,7 +3,8 @@ use Rattle.std.specs.Prelude.{◌≡◌, refl, Bool, true, false, cond, ℕ, ◌
 use Rattle.std.proofs.Common.{⊎_elim, arith}
 use Rattle.std.proofs.Math.Option.{Option, none, some}
 use Rattle.bitlaws.specs.Digit.{digit_above}
-use Rattle.bitlaws.specs.Highest.{highest, Top, highest_top, none_zero}
+use Rattle.bitlaws.specs.Highest.{highest, Top}
+use Rattle.bitlaws.proofs.Highest.{highest_top, none_zero}
 use Rattle.bitlaws.specs.Order.{le_or_lt}
 use Rattle.paulilaws.specs.Pauli.{Pauli}
 use Rattle.paulilaws.specs.Fitting.{Fitting}

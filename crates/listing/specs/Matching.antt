@@ -18,8 +18,9 @@ use Rattle.amplitudelaws.specs.Step.Step.{correction}
 use Rattle.framelaws.specs.Caller.{widest_run, service}
 use Rattle.framelaws.specs.Carried.{survey_carried}
 use Rattle.framelaws.specs.Carrying.{carried_steps, end_pauli}
-use Rattle.framelaws.specs.Fitted.{fitting_end}
-use Rattle.framelaws.specs.Representable.{RepresentableState, ran_representable}
+use Rattle.framelaws.proofs.Fitted.{fitting_end}
+use Rattle.framelaws.specs.Representable.{RepresentableState}
+use Rattle.framelaws.proofs.Representable.{ran_representable}
 use Rattle.framelaws.specs.Memory.{Memory, stepped, ran}
 use Rattle.framelaws.specs.Survey.{Survey}
 use Rattle.framelaws.specs.Surveyed.{survey_width, survey_steps}
@@ -27,13 +28,14 @@ use Rattle.lines.specs.Lines.{refusal_line}
 use Rattle.lines.specs.Numbers.{zero_part, nan_part, other_part}
 use Rattle.runlaws.specs.Calls.{Ending, ending_of, survey_of, running, carrying}
 use Rattle.runlaws.specs.Field.{most_bytes}
-use Rattle.runlaws.specs.FirstCorrection.{begun_read}
+use Rattle.runlaws.proofs.FirstCorrection.{begun_read}
 use Rattle.runlaws.specs.Frame.{SameNumbers, FiniteRun, Frame, fired, sent}
-use Rattle.runlaws.specs.LastCorrection.{ended_read, ran_last, width_last}
+use Rattle.runlaws.proofs.LastCorrection.{ended_read, ran_last, width_last}
 use Rattle.runlaws.specs.Outcomes.{running_done, running_answers}
 use Rattle.runlaws.specs.Run.{Run, run_of}
-use Rattle.runlaws.specs.Sent.{carried_of, Sent, sent_accepted}
-use Rattle.runlaws.specs.Theorem.{fired_done, frame_at_the_service}
+use Rattle.runlaws.specs.Sent.{carried_of, Sent}
+use Rattle.runlaws.proofs.Sent.{sent_accepted}
+use Rattle.runlaws.proofs.Theorem.{fired_done, frame_at_the_service}
 use Rattle.runlaws.specs.WholeRun.{run_allowed, run_long}
 use Rattle.runlaws.specs.WithCorrection.{behind_start, before_end, behind_length, before_length}
 use Rattle.listing.specs.Listing.{fresh, state_text, text_of, listed}

@@ -15,7 +15,8 @@ use Rattle.runlaws.specs.Outcomes.{ending_within}
 use Rattle.framelaws.specs.Caller.{widest_run, service}
 use Rattle.listing.specs.Laws.{lines_most}
 use Rattle.listing.specs.Listing.{fresh, amplitude_lines, state_text, text_of, listed}
-use Rattle.runlaws.specs.Numbers.{Refusals, service_most}
+use Rattle.runlaws.specs.Numbers.{Refusals}
+use Rattle.runlaws.proofs.Numbers.{service_most}
 
 -- a line of 10 bytes for the width, and 4,096 of at most 39
 abbrev pub most_text : ℕ

@@ -7,7 +7,8 @@ use Rattle.std.proofs.Math.Logic.{⊎_elim}
 use Prim.Native.Nat.{ℕ, zero, suc, ◌+◌, ◌^◌, ◌≤◌, ◌<◌}
 use Rattle.std.proofs.Math.Pow.{pow-lt}
 use Rattle.bitlaws.specs.Order.{le_or_lt}
-use Rattle.floatlaws.specs.Same.{same_eq, same_zeros, same_says}
+use Rattle.floatlaws.specs.Same.{same_eq, same_zeros}
+use Rattle.floatlaws.proofs.Same.{same_says}
 use Rattle.amplitudelaws.specs.Binary.{Point}
 use Rattle.amplitudelaws.specs.State.{State, point}
 use Rattle.framelaws.specs.Representable.{Representable, RepresentableState}

@@ -13,7 +13,8 @@ use lib.Dec.{ltb, eqb}
 use Rattle.std.proofs.Math.ListN.{get_or}
 use Rattle.std.proofs.Math.Seq.{get_or-set_other}
 use Rattle.bitlaws.specs.Digit.{bit_of, digit, put, digit_above}
-use Rattle.bitlaws.specs.Highest.{highest, highest_none, highest_some, power_top}
+use Rattle.bitlaws.specs.Highest.{highest, power_top}
+use Rattle.bitlaws.proofs.Highest.{highest_none, highest_some}
 use Rattle.bitlaws.specs.Words.{words, total, words_xor, words_or, words_ones, words_at, words_digit, words_put, words_same, words_lt, words_below}
 use Rattle.masks.specs.Mask.{mask, bit_written}
 

@@ -10,7 +10,8 @@ use lib.Pow.{pow_mono}
 use Rattle.bitlaws.specs.Digit.{bit_of}
 use Rattle.bitlaws.specs.Opening.{open_bit}
 use Rattle.bitlaws.specs.Parity.{overlap}
-use Rattle.bitlaws.specs.Source.{source, source_lt, source_mod}
+use Rattle.bitlaws.specs.Source.{source}
+use Rattle.bitlaws.proofs.Source.{source_lt, source_mod}
 use Rattle.statelaws.specs.Pairs.{Pivoted}
 use Rattle.amplitudelaws.specs.Arithmetic.{mixed, scale, direction, direction_bit}
 use Rattle.amplitudelaws.specs.Binary.{binary, Point}

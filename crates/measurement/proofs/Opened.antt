@@ -3,7 +3,8 @@ use mathlib.Core.Path.{◌≡◌, ◌∙◌}
 use Prim.Native.Nat.{ℕ, ◌%◌, ◌^◌, ◌≤◌, ◌<◌}
 use native.Mathlib.Nat.{mod-eq_of_lt}
 use native.Mathlib.Omega.{arith}
-use Rattle.bitlaws.specs.Opening.{open_bit, open_lt}
+use Rattle.bitlaws.specs.Opening.{open_bit}
+use Rattle.bitlaws.proofs.Opening.{open_lt}
 
 module _ (p j : ℕ) (hp : p ≤ 60) (hj : j < 2 ^ 60) where
   pub opened_lt : open_bit p j < 2 ^ 61

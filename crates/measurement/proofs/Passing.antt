@@ -16,7 +16,8 @@ use Rattle.amplitudelaws.specs.Arithmetic.{scaled}
 use Rattle.amplitudelaws.specs.Binary.{binary, Point, clamped}
 use Rattle.amplitudelaws.specs.Calls.{projected_memory}
 use Rattle.amplitudelaws.specs.Memory.{Memory}
-use Rattle.amplitudelaws.specs.Passed.{measurement_passed, room_lengths}
+use Rattle.amplitudelaws.specs.Passed.{room_lengths}
+use Rattle.amplitudelaws.proofs.Passed.{measurement_passed}
 use Rattle.amplitudelaws.specs.Probability.{mass, squared, total}
 use Rattle.amplitudelaws.specs.Projection.{minus, projected, projection_coefficient, remaining, remaining_by}
 use Rattle.amplitudelaws.specs.Rows.{widest_kernel, hermitian_row, pivot_mask, pivot_row, measurement_row}

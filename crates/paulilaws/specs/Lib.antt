@@ -1,11 +1,9 @@
 pub mod Pauli
 pub mod Action
-pub mod Algebra
 pub mod Letter
 pub mod Support
 pub mod Fitting
 pub mod Frame
-pub mod Exchange
 pub mod MaskWord
 pub mod Printed
 pub mod AntiMask

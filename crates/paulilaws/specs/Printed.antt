@@ -1,10 +1,7 @@
 -- The letters as Nielsen and Chuang print them: what I, X, Y and Z on one qubit do to |0> and |1>.
-use Rattle.std.specs.Prelude.{◌≡◌, refl, ℕ}
-use Rattle.std.specs.Int.Count.{ones}
-use Rattle.bitlaws.specs.Digit.{digit, put}
-use Rattle.bitlaws.specs.Parity.{parity, overlap}
+use Rattle.std.specs.Prelude.{◌≡◌, ℕ}
 use Rattle.paulilaws.specs.Pauli.{identity}
-use Rattle.paulilaws.specs.Letter.{Letter, letter_at, with_letter}
+use Rattle.paulilaws.specs.Letter.{Letter, with_letter}
 use Rattle.paulilaws.specs.Letter.Letter.{I, X, Y, Z}
 use Rattle.paulilaws.specs.Action.{Ket, on_ket}
 
@@ -25,7 +22,3 @@ pub record Printed : Type 0 where
   pub y_one : sent Y 1 ≡ times_i 3 0
   pub z_zero : sent Z 0 ≡ times_i 0 0
   pub z_one : sent Z 1 ≡ times_i 2 1
-
-pub printed : Printed
-unfolding sent on_ket with_letter letter_at digit put overlap parity ones
-printed = record { i_zero = refl; i_one = refl; x_zero = refl; x_one = refl; y_zero = refl; y_one = refl; z_zero = refl; z_one = refl }

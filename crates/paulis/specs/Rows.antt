@@ -5,7 +5,8 @@ use Rattle.std.proofs.lemmas.Bool.{lt-leb, not-false}
 use Rattle.answers.specs.Answer.{Answer, refuse}
 use Rattle.answers.specs.Answer.Answer.{refused}
 use Rattle.paulilaws.specs.Pauli.{Pauli, fits}
-use Rattle.paulilaws.specs.Fitting.{Admitted, fits_admitted}
+use Rattle.paulilaws.specs.Fitting.{Admitted}
+use Rattle.paulilaws.proofs.Fitting.{fits_admitted}
 use Rattle.paulis.specs.Calls.{on_pauli, on_qubit}
 
 module _ {A : Type 0} (P : Pauli) (rest : Answer A) {t : Bool} (is : t ≡ fits P) where

@@ -14,7 +14,8 @@ use Rattle.answers.specs.Answer.{refuse, value_or}
 use Rattle.answers.specs.Answer.Answer.{accepted, refused, refused_at}
 use Rattle.paulilaws.specs.Pauli.{Pauli, fits, identity, most_qubits}
 use Rattle.paulilaws.specs.Letter.{Letter, letter_at, with_letter}
-use Rattle.paulilaws.specs.Fitting.{Admitted, admitted_fits, identity_fitting, letter_fitting}
+use Rattle.paulilaws.specs.Fitting.{Admitted, identity_fitting, letter_fitting}
+use Rattle.paulilaws.proofs.Fitting.{admitted_fits}
 use Rattle.paulis.specs.Calls.{on_pauli, identity_call, set_call, get_call}
 use Rattle.paulis.specs.Rows.{a_qubit}
 use Rattle.paulis.specs.Strings.{pauli_of, Made}

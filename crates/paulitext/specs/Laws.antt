@@ -8,7 +8,8 @@ use Rattle.answers.specs.Answer.{refuse}
 use Rattle.answers.specs.Answer.Answer.{accepted, refused, refused_at}
 use Rattle.bitlaws.specs.Parity.{ones_zero}
 use Rattle.paulilaws.specs.Pauli.{Pauli, identity, coefficient, ys}
-use Rattle.paulilaws.specs.Letter.{Letter, letter_at, with_letter, letter_set, letter_kept, coefficient_kept}
+use Rattle.paulilaws.specs.Letter.{Letter, letter_at, with_letter, letter_set, letter_kept}
+use Rattle.paulilaws.proofs.Letter.{coefficient_kept}
 use Rattle.paulitext.specs.Text.{letter_of_byte, on_letter, reading, byte_of, letters_from}
 use Rattle.paulitext.specs.Calls.{read_call}
 

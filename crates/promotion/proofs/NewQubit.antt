@@ -9,11 +9,12 @@ use lib.Pow.{pow_pos}
 use Rattle.bitlaws.specs.Digit.{digit_above}
 use Rattle.bitlaws.specs.Opening.{open_bit, open_small}
 use Rattle.bitlaws.specs.Pairs.{pair_of}
-use Rattle.bitlaws.specs.Pivot.{digit_power, xor_pivot}
+use Rattle.bitlaws.proofs.Pivot.{digit_power, xor_pivot}
 use Rattle.statelaws.specs.Pairs.{Pivoted}
 use Rattle.amplitudelaws.specs.Binary.{Point}
 use Rattle.amplitudelaws.specs.State.{State, point, set_point, written}
-use Rattle.amplitudelaws.specs.Sweeping.{Sweeping, pair_ahead_low, pair_more, pair_all}
+use Rattle.amplitudelaws.specs.Sweeping.{Sweeping, pair_ahead_low, pair_more}
+use Rattle.amplitudelaws.proofs.Sweeping.{pair_all}
 
 halves : (n : ℕ) → Pivoted (suc n) n (2 ^ n)
 halves n = record { inside = le_refl (suc n); mask = omega (arith, pow-suc 2 n, pow_pos n); has = digit_power n }

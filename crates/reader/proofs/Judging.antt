@@ -12,7 +12,7 @@ use Rattle.bitlaws.specs.Digit.{bit_of}
 use Rattle.paulilaws.specs.Pauli.{Pauli}
 use Rattle.amplitudelaws.specs.Binary.{in_unit}
 use Rattle.amplitudelaws.specs.Rows.{hermitian_row, unit_row, rotation_kernel_row, pivot_row, measurement_row, promoted_width_row, widest_kernel}
-use Rattle.amplitudelaws.specs.Passed.{measurement_passed}
+use Rattle.amplitudelaws.proofs.Passed.{measurement_passed}
 use Rattle.amplitudelaws.specs.Step.{Step, width_after}
 use Rattle.amplitudelaws.specs.Step.Step.{rotation, promotion, projection}
 use Rattle.framelaws.specs.Caller.{Caller}

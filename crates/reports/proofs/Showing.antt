@@ -7,7 +7,8 @@ use lib.ListN.{length, take, drop}
 use lib.Seq.{sets}
 use Rattle.answers.specs.Answer.{Answer, refuse}
 use Rattle.paulilaws.specs.Pauli.{Pauli, fits}
-use Rattle.paulilaws.specs.Fitting.{Admitted, admitted_fits}
+use Rattle.paulilaws.specs.Fitting.{Admitted}
+use Rattle.paulilaws.proofs.Fitting.{admitted_fits}
 use Rattle.paulis.specs.Calls.{on_pauli}
 use Rattle.paulitext.specs.Calls.{Shown, show_call, buffer_after}
 use Rattle.paulitext.specs.Text.{shown}

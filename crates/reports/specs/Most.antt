@@ -26,9 +26,11 @@ use Rattle.lines.specs.Pieces.{lined_fits}
 use Rattle.runlaws.specs.Calls.{Frames, frames_of, on_run, of_run, framing, finding}
 use Rattle.runlaws.specs.Field.{most_bytes}
 use Rattle.runlaws.specs.Flags.{field_size}
-use Rattle.runlaws.specs.Pieces.{Pieces, piece_size}
+use Rattle.runlaws.specs.Pieces.{Pieces}
+use Rattle.runlaws.proofs.Pieces.{piece_size}
 use Rattle.runlaws.specs.Run.{Run, run_of}
-use Rattle.runlaws.specs.RunPieces.{start_bytes, run_pieces}
+use Rattle.runlaws.specs.RunPieces.{start_bytes}
+use Rattle.runlaws.proofs.RunPieces.{run_pieces}
 use Rattle.reports.specs.Input.{before, after, has, is_digit, grown, no_step, number_from, number}
 use Rattle.reports.specs.Lengths.{byte_digits, step_most, end_most, refusal_at_most}
 use Rattle.reports.specs.Listing.{step_lines, frames_text, answer_text, step_listed, steps_listed, asked, report_listed}

@@ -16,7 +16,8 @@ use Rattle.framelaws.specs.Caller.{Caller, widest_run}
 use Rattle.framelaws.specs.Carrying.{passed, end_pauli}
 use Rattle.framelaws.specs.PassRow.{placed_row, pass_row}
 use Rattle.framelaws.specs.Reporting.{Framed, framed_steps}
-use Rattle.framelaws.specs.Suited.{Paired, Suited, placed_passed, passed_suited, passed_width, passed_admitted, step_passes}
+use Rattle.framelaws.specs.Suited.{Paired, Suited, placed_passed}
+use Rattle.framelaws.proofs.Suited.{passed_suited, passed_width, passed_admitted, step_passes}
 use Rattle.framelaws.specs.Passing.{width_kept}
 use Rattle.runlaws.specs.Calls.{finding}
 use Rattle.runlaws.specs.Found.{finding_found}

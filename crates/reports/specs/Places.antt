@@ -22,7 +22,8 @@ use Rattle.framelaws.specs.Rows.{step_row}
 use Rattle.runlaws.specs.Calls.{Frames, on_run, of_run, frames_of, framing, found, finding}
 use Rattle.runlaws.specs.Field.{Field, most_bytes, field_at}
 use Rattle.runlaws.specs.Fields.{by_test, step_read_lem}
-use Rattle.runlaws.specs.Numbers.{Refusals, run_has}
+use Rattle.runlaws.specs.Numbers.{Refusals}
+use Rattle.runlaws.proofs.Numbers.{run_has}
 use Rattle.runlaws.specs.Reading.{Cursor, Read, is_field, unless, judged_by, judged, decoded, read_field, read_at}
 use Rattle.runlaws.specs.Reading.Read.{step_read, end_read, refused_read}
 use Rattle.runlaws.specs.Run.{Run, mapped, chained, ended, follow, walk, start_width, begun, run_of}

@@ -13,9 +13,9 @@ use Rattle.amplitudelaws.specs.Book.Ring.{Ring}
 use Rattle.amplitudelaws.specs.Book.Complex.{exact}
 use Rattle.amplitudelaws.specs.Book.Matrix.{applied}
 use Rattle.amplitudelaws.specs.Book.Operators.{operators}
-use Rattle.amplitudelaws.specs.Book.Theorem.{book}
+use Rattle.amplitudelaws.proofs.Book.Theorem.{book}
 use Rattle.framelaws.specs.Caller.{Caller}
-use Rattle.framelaws.specs.Acted.{allowed_propers, ran_acted}
+use Rattle.framelaws.proofs.Acted.{allowed_propers, ran_acted}
 use Rattle.framelaws.specs.Memory.{Memory}
 use Rattle.framelaws.specs.Surveyed.{survey_width, survey_steps}
 use Rattle.runlaws.specs.Run.{Run, run_of}

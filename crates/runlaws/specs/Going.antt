@@ -8,10 +8,10 @@ use Rattle.paulilaws.specs.Fitting.{Admitted}
 use Rattle.amplitudelaws.specs.Step.{Step, width_after}
 use Rattle.framelaws.specs.Caller.{Caller}
 use Rattle.framelaws.specs.Carrying.{passed, end_pauli}
-use Rattle.framelaws.specs.Folded.{folded_admitted, folded_width}
+use Rattle.framelaws.proofs.Folded.{folded_admitted, folded_width}
 use Rattle.framelaws.specs.Folding.{folded_past}
 use Rattle.framelaws.specs.PassRow.{pass_row}
-use Rattle.framelaws.specs.Suited.{passed_width, passed_admitted, step_passes}
+use Rattle.framelaws.proofs.Suited.{passed_width, passed_admitted, step_passes}
 use Rattle.runlaws.specs.Reading.{Cursor, read_at}
 use Rattle.runlaws.specs.Reading.Read.{step_read}
 use Rattle.runlaws.specs.Run.{Run, walk, run_of}

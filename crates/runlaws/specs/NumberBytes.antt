@@ -1,9 +1,8 @@
 -- The bytes of a number, lowest first, and that they read back.
-use Rattle.std.specs.Prelude.{◌≡◌, refl, List, [], ◌∷◌, ◌++◌, ℕ, zero, suc, ◌+◌, ◌*◌, ◌/◌, ◌%◌, ◌^◌, ◌<◌, length}
-use Rattle.std.proofs.Common.{sym, ap, ap₂, ◌∙◌, add_comm, mul_comm, pow-suc, div-one, mod-lt, zero-lt-suc, arith, get_or-append-add}
-use Rattle.std.proofs.Math.Nat.{pow-zero, mod-one, div-div-eq-div-mul}
+use Rattle.std.specs.Prelude.{◌≡◌, refl, List, [], ◌∷◌, ℕ, zero, suc, ◌+◌, ◌*◌, ◌/◌, ◌%◌, ◌^◌, ◌<◌, length}
+use Rattle.std.proofs.Common.{sym, ap, ap₂, ◌∙◌, add_comm, mul_comm, pow-suc, mod-lt, zero-lt-suc, arith}
+use Rattle.std.proofs.Math.Nat.{pow-zero, mod-one}
 use Rattle.std.proofs.Math.Arith.{mod-mul}
-use Rattle.std.proofs.Math.ListN.{get_or-append}
 use Rattle.runlaws.specs.Bytes.{byte_at, number}
 
 -- the lowest k bytes of v
@@ -22,14 +21,6 @@ bytes_small zero v i = zero-lt-suc 255
 bytes_small (suc k) v zero = mod-lt _ (zero-lt-suc 255)
 bytes_small (suc k) v (suc i) = bytes_small k _ i
 
-pub bytes_at : (k v i : ℕ) → i < k → byte_at (bytes_of k v) i ≡ v / 256 ^ i % 256
-unfolding bytes_of
-bytes_at zero v i h = absurd (omega arith)
-bytes_at (suc k) v zero h = ap (λ (n : ℕ). n % 256) (sym (ap (λ (p : ℕ). v / p) (pow-zero 256) ∙ div-one v))
-bytes_at (suc k) v (suc i) h =
-    bytes_at k (v / 256) i (omega arith)
-    ∙ ap (λ (n : ℕ). n % 256) (div-div-eq-div-mul v 256 (256 ^ i) ∙ ap (λ (p : ℕ). v / p) (mul_comm 256 (256 ^ i) ∙ sym (pow-suc 256 i)))
-
 some_power : (k : ℕ) → 0 < 256 ^ k
 some_power zero = omega (arith, pow-zero 256)
 some_power (suc k) = omega (arith, pow-suc 256 k, some_power k)
@@ -43,8 +34,3 @@ number_of (suc k) v s i h =
     ap₂ (λ (a b : ℕ). a + p * b) (number_of k v s i (λ m l. h m (omega arith))) (h k (omega arith))
     ∙ add_comm (v % p) (p * (v / p % 256)) ∙ ap (λ (a : ℕ). a + v % p) (mul_comm p (v / p % 256))
     ∙ sym (ap (λ (q : ℕ). v % q) (pow-suc 256 k ∙ mul_comm p 256) ∙ mod-mul v {m = 256} {c = p} (omega arith) (some_power k))
-
--- read back, wherever they stand
-pub bytes_read : (k v : ℕ) (pre rest : List ℕ) → number k (pre ++ (bytes_of k v ++ rest)) (length pre) ≡ v % 256 ^ k
-bytes_read k v pre rest = number_of k v (pre ++ (bytes_of k v ++ rest)) (length pre) (λ m h.
-    get_or-append-add pre (bytes_of k v ++ rest) m 0 ∙ get_or-append (bytes_of k v) rest 0 m (rw (bytes_length k v) h) ∙ bytes_at k v m h)

@@ -11,10 +11,10 @@ use Rattle.answers.specs.Row.{accepted_same, accepted_value}
 use Rattle.amplitudelaws.specs.Binary.{binary}
 use Rattle.amplitudelaws.specs.State.{point}
 use Rattle.amplitudelaws.specs.Step.{Step, width_after, last_width}
-use Rattle.amplitudelaws.specs.Near.{acted_near}
+use Rattle.amplitudelaws.proofs.Near.{acted_near}
 use Rattle.framelaws.specs.Caller.{Caller}
 use Rattle.framelaws.specs.CallerRows.{row_alike}
-use Rattle.framelaws.specs.Acted.{allowed_propers, ran_acted}
+use Rattle.framelaws.proofs.Acted.{allowed_propers, ran_acted}
 use Rattle.framelaws.specs.Memory.{Memory}
 use Rattle.framelaws.specs.Passing.{width_kept}
 use Rattle.framelaws.specs.Rows.{step_row}

@@ -71,10 +71,6 @@ module _ (caller : Caller) (s : List ℕ) where
   run_long h = rw (lt-ltb most_bytes (length s) h)
 
   module _ (short : length s ≤ most_bytes) where
-    pub run_unbegun : start_width (field_at s 0) ≡ none → run_of caller s ≡ refused_at 14 0
-    unfolding run_of begun
-    run_unbegun e = rw (le-ltb most_bytes (length s) short, e)
-
     pub run_too_wide : (n : ℕ) → start_width (field_at s 0) ≡ some n → caller.widest < n → run_of caller s ≡ refused_at caller.start_row 0
     unfolding run_of begun
     run_too_wide n e wide = rw (le-ltb most_bytes (length s) short, e, lt-ltb caller.widest n wide)

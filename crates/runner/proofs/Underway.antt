@@ -12,7 +12,8 @@ use Rattle.amplitudelaws.specs.Step.{Step}
 use Rattle.framelaws.specs.Caller.{Caller}
 use Rattle.framelaws.specs.Survey.{survey}
 use Rattle.framelaws.specs.Memory.{Memory, stepped, ran}
-use Rattle.framelaws.specs.Kept.{SameSizes, ran_sizes}
+use Rattle.framelaws.specs.Kept.{SameSizes}
+use Rattle.framelaws.proofs.Kept.{ran_sizes}
 use Rattle.runlaws.specs.Reading.{Cursor, read_at}
 use Rattle.runlaws.specs.Reading.Read.{step_read}
 use Rattle.runlaws.specs.Calls.{survey_of, running}

@@ -20,7 +20,7 @@ use Rattle.runlaws.specs.Calls.{checked_run_of, survey_of, checking_with_start, 
 use Rattle.runlaws.specs.Mapped.{mapped_refused}
 use Rattle.runlaws.specs.OnStart.{run_in, checked_read, checked_start, checked_survey}
 use Rattle.runlaws.specs.Outcomes.{last_within}
-use Rattle.runlaws.specs.Seeking.{seeking_is, seeking_refused}
+use Rattle.runlaws.proofs.Seeking.{seeking_is, seeking_refused}
 use Rattle.runlaws.specs.WholeRun.{run_allowed}
 use Rattle.seeker.specs.Seekable.{steps_in, Seekable}
 

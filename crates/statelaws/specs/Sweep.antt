@@ -2,7 +2,6 @@
 use Rattle.std.specs.Prelude.{◌≡◌, refl, ◌⊎◌, List, ℕ, ◌+◌, ◌≤◌, ◌<◌, length, get_or, set}
 use Rattle.std.proofs.Common.{sym, ap, ◌∙◌, subst, ⊎_elim, eq-or-lt_of_le, arith, length-set, get_or-set_same, get_or-set_other}
 use Rattle.bitlaws.specs.Order.{le_or_lt}
-use Rattle.statelaws.specs.Over.{over, over_is}
 
 -- After t turns the list l₀ is l. `turn k` is the turn that writes entry k, and `f k` what it writes there; d stands for entries past the end.
 pub record Swept {A : Type 0} (d : A) (turn : ℕ → ℕ) (f : ℕ → A) (n : ℕ) (l₀ : List A) (t : ℕ) (l : List A) : Type 0 where
@@ -58,10 +57,6 @@ module _ {A : Type 0} {d : A} {turn : ℕ → ℕ} {f : ℕ → A} {n : ℕ} {l�
             past = λ k h. off k (λ e. omega arith) (λ e. omega arith) ∙ s.past k h;
           }
 
-    -- the loop is over
-    pub swept_all : ((k : ℕ) → k < n → turn k < t) → l ≡ over n f l₀
-    swept_all all = over_is d n f l₀ l s.len (λ k h b. s.done k h (all k h)) s.past
-
 -- a loop that goes up: turn k writes entry k
 abbrev pub Rising : {A : Type 0} → A → (ℕ → A) → ℕ → List A → ℕ → List A → Type 0
 Rising d f n l₀ t l = Swept d (λ k. k) f n l₀ t l
@@ -73,6 +68,3 @@ module _ {A : Type 0} {d : A} {f : ℕ → A} {n : ℕ} {l₀ : List A} {t : ℕ
   -- an entry that is not yet reached, inside or past the n
   pub rising_ahead : (k : ℕ) → t ≤ k → get_or l k d ≡ get_or l₀ k d
   rising_ahead k h = ⊎_elim (λ (p : n ≤ k). s.past k p) (λ (q : k < n). s.ahead k q h) (le_or_lt n k)
-
-  pub rising_all : t ≡ n → l ≡ over n f l₀
-  rising_all e = swept_all s (λ k h. omega arith)

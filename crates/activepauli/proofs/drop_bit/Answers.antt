@@ -5,7 +5,8 @@ use native.Mathlib.Nat.{div-eq_of_lt, mod-eq_of_lt}
 use native.Mathlib.Omega.{arith}
 use lib.Pow.{pow_mono, pow_pos}
 use Rattle.bitlaws.specs.Digit.{one_shifted}
-use Rattle.bitlaws.specs.Opening.{drop_bit, drop_lt}
+use Rattle.bitlaws.specs.Opening.{drop_bit}
+use Rattle.bitlaws.proofs.Opening.{drop_lt}
 use borrow.Author.Rules.{rules}
 use Rattle.activepauli.proofs.drop_bit.Goals as goal
 

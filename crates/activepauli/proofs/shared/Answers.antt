@@ -6,7 +6,8 @@ use native.Mathlib.Omega.{arith}
 use lib.Bits.{bit_and}
 use lib.Dec.{eqb, lit<}
 use borrow.Author.Tests.{eqb-true, eqb-false}
-use Rattle.bitlaws.specs.Parity.{parity, parity_lt, overlap}
+use Rattle.bitlaws.specs.Parity.{parity, overlap}
+use Rattle.bitlaws.proofs.Parity.{parity_lt}
 use borrow.Author.Rules.{rules}
 use Rattle.activepauli.proofs.shared.Goals as goal
 

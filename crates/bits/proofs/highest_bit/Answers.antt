@@ -5,7 +5,8 @@ use Prim.Native.Nat.{ℕ, suc, ◌+◌, ◌-◌}
 use native.Mathlib.Omega.{arith}
 use lib.Count.{count_leading_zeros, leading_top}
 use Rattle.bitlaws.specs.Digit.{digit_above}
-use Rattle.bitlaws.specs.Highest.{highest_none, highest_some, power_top}
+use Rattle.bitlaws.specs.Highest.{power_top}
+use Rattle.bitlaws.proofs.Highest.{highest_none, highest_some}
 use borrow.Author.Rules.{rules}
 use Rattle.bits.proofs.highest_bit.Goals as goal
 

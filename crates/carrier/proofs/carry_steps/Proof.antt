@@ -6,7 +6,7 @@ use Rattle.framelaws.specs.Carrying.{carried_step, passed, carried_steps, end_pa
 use Rattle.passing.specs.Answer.{pass_answer_of}
 use Rattle.passing.specs.Accepted.{past_is, past_never}
 use Rattle.runlaws.specs.Flags.{flagged}
-use Rattle.runlaws.specs.Flagged.{flag_length}
+use Rattle.runlaws.proofs.Flagged.{flag_length}
 use Rattle.runlaws.specs.Going.{Gone, going_step}
 use Rattle.runlaws.specs.OnStart.{run_in}
 use Rattle.callers.specs.Meaning.{caller_of}

@@ -1,7 +1,7 @@
 use mathlib.Core.Path.{sym, ◌∙◌}
 use Rattle.activepauli.specs.Active.{active_of}
 use Rattle.callers.specs.Meaning.{caller_of}
-use Rattle.runlaws.specs.Logged.{same_test}
+use Rattle.runlaws.proofs.Logged.{same_test}
 use Rattle.framelog.specs.LogIn.{log_in}
 use Rattle.framelog.proofs.Longest.{alone}
 use borrow.Author.Rules.{rules}

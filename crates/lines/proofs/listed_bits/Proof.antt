@@ -4,7 +4,7 @@ use mathlib.Core.Bool.{true, false}
 use lib.IntN.{pos}
 use lib.Ieee.{Float, fin, eq, of_bits}
 use Rattle.floatlaws.specs.Same.{is_zero}
-use Rattle.floatlaws.specs.Zero.{equals_zero}
+use Rattle.floatlaws.proofs.Zero.{equals_zero}
 use Rattle.lines.specs.Lines.{bits_of, listed_bits}
 use borrow.Author.Rules.{rules}
 use Rattle.lines.proofs.listed_bits.Statement.{statement}

@@ -5,7 +5,8 @@ use mathlib.Core.Bool.{Bool, false, cond}
 use Prim.Native.Nat.{ℕ, ◌-◌, ◌^◌}
 use native.Mathlib.Omega.{arith}
 use lib.Ieee.{Float, nan}
-use Rattle.statelaws.specs.Over.{length_over, over_at, over_ext}
+use Rattle.statelaws.specs.Over.{length_over}
+use Rattle.statelaws.proofs.Over.{over_at, over_ext}
 use Rattle.amplitudelaws.specs.Binary.{Point}
 use Rattle.amplitudelaws.specs.State.{State, state_of, point, written, HasRoom}
 use Rattle.amplitudelaws.specs.Sweeping.{state_same}

@@ -4,7 +4,8 @@ use native.Mathlib.Omega.{arith}
 use Rattle.answers.specs.Row.{some_row, answered_some, answered_none}
 use Rattle.activepauli.specs.Active.{active_of}
 use Rattle.framelaws.specs.PassRow.{pass_row, past_call}
-use Rattle.framelaws.specs.Suited.{Suited, passed_suited}
+use Rattle.framelaws.specs.Suited.{Suited}
+use Rattle.framelaws.proofs.Suited.{passed_suited}
 use Rattle.steps.specs.Meaning.{step_of}
 use borrow.Author.Rules.{rules}
 use Rattle.passing.proofs.past.Goals as goal

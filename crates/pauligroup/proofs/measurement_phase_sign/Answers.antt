@@ -8,7 +8,7 @@ use Rattle.answers.specs.Answer.{refuse}
 use Rattle.pauligroup.specs.Calls.{sign_call}
 use Rattle.paulis.specs.Rows.{no_pauli, a_pauli}
 use Rattle.paulilaws.specs.Pauli.{coefficient, hermitian, sign}
-use Rattle.paulilaws.specs.Algebra.{sign_test}
+use Rattle.paulilaws.proofs.Algebra.{sign_test}
 use Rattle.paulis.specs.Strings.{pauli_of}
 use mathlib.Core.Bool.{not}
 use borrow.Author.Rules.{rules}

@@ -1,7 +1,7 @@
 -- Each return is a case of Showing; what coefficient_phase tells decides row 3.
 use mathlib.Core.Path.{sym, ap, ◌∙◌}
 use Rattle.paulilaws.specs.Pauli.{coefficient}
-use Rattle.paulilaws.specs.Fitting.{fits_admitted}
+use Rattle.paulilaws.proofs.Fitting.{fits_admitted}
 use Rattle.pauligroup.specs.Calls.{coefficient_call, phase_answer_of}
 use Rattle.paulis.specs.Strings.{pauli_of}
 use Rattle.paulitext.proofs.Walk.{told_value, told_refused}

@@ -5,7 +5,8 @@ use Prim.Native.Nat.{ℕ, ◌^◌, ◌<◌}
 use lib.Dec.{eqb}
 use Rattle.bitlaws.specs.Parity.{parity}
 use Rattle.paulilaws.specs.Pauli.{Pauli}
-use Rattle.paulilaws.specs.AntiMask.{anti_mask, anti_mask_lem}
+use Rattle.paulilaws.specs.AntiMask.{anti_mask}
+use Rattle.paulilaws.proofs.AntiMask.{anti_mask_lem}
 use Rattle.framelaws.specs.Reporting.{pair_report}
 use Rattle.framelaws.specs.Reporting.Report.{flagged}
 use borrow.Author.Rules.{rules}

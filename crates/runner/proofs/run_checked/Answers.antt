@@ -1,5 +1,5 @@
 use mathlib.Core.Path.{sym, ◌∙◌}
-use Rattle.amplitudelaws.specs.Lent.{lent_memory}
+use Rattle.amplitudelaws.specs.Memory.{memory_of}
 use Rattle.runlaws.specs.Calls.{memory_row}
 use Rattle.callers.specs.Meaning.{caller_of}
 use Rattle.checker.specs.Meaning.{survey_fields_of}
@@ -11,14 +11,14 @@ pub returns-then-row-ne0 : goal.returns-then-row-ne0
 unfolding memory_row
 returns-then-row-ne0 c =
     let a = c.args in
-    let m = lent_memory a.re a.im a.scratch_re a.scratch_im in
+    let m = memory_of a.re.now a.im.now a.scratch_re.now a.scratch_im.now in
     runs_short (caller_of a.caller) a.run.now m a.start (survey_fields_of a.survey) c.requires _ c.memory_row-row.ensures c.if-row-ne0.true
 
 pub run_steps-requires : goal.run_steps-requires
 unfolding memory_row
 run_steps-requires c =
     let a = c.args in
-    let m = lent_memory a.re a.im a.scratch_re a.scratch_im in
+    let m = memory_of a.re.now a.im.now a.scratch_re.now a.scratch_im.now in
     runs_ready (caller_of a.caller) a.run.now m a.start (survey_fields_of a.survey) c.requires
     (sym c.memory_row-row.ensures ∙ c.if-row-ne0.false)
 
@@ -26,6 +26,6 @@ pub returns : goal.returns
 unfolding memory_row
 returns c =
     let a = c.args in
-    let m = lent_memory a.re a.im a.scratch_re a.scratch_im in
+    let m = memory_of a.re.now a.im.now a.scratch_re.now a.scratch_im.now in
     runs_finished (caller_of a.caller) a.run.now m a.start (survey_fields_of a.survey) c.requires
     (sym c.memory_row-row.ensures ∙ c.if-row-ne0.false) c.run_steps.ensures

@@ -1,5 +1,5 @@
 use mathlib.Core.Path.{sym, ap, ◌∙◌}
-use Rattle.amplitudelaws.specs.Lent.{lent_memory}
+use Rattle.amplitudelaws.specs.Memory.{memory_of}
 use Rattle.callers.specs.Meaning.{caller_of}
 use Rattle.checker.specs.Meaning.{checked_of}
 use Rattle.runner.proofs.Outcomes.{runs_refused}
@@ -13,6 +13,6 @@ run_checked-requires c =
 pub returns-in-Refused : goal.returns-in-Refused
 returns-in-Refused c =
     let a = c.args in
-    let m = lent_memory a.re a.im a.scratch_re a.scratch_im in
+    let m = memory_of a.re.now a.im.now a.scratch_re.now a.scratch_im.now in
     runs_refused (caller_of a.caller) a.run.now m _ _
     (sym c.check_with_start.ensures ∙ ap checked_of c.in-Refused.is)

@@ -1,5 +1,5 @@
 use mathlib.Core.Path.{sym, ap, ◌∙◌}
-use Rattle.bitlaws.specs.Highest.{none_zero}
+use Rattle.bitlaws.proofs.Highest.{none_zero}
 use Rattle.bits.specs.Highest.{highest_bit_of}
 use Rattle.kernels.specs.Pivot.{found_pivot}
 use borrow.Author.Rules.{rules}

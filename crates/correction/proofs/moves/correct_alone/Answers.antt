@@ -9,7 +9,8 @@ use Rattle.amplitudelaws.specs.Arithmetic.{times_power}
 use Rattle.amplitudelaws.specs.Binary.{binary, Point}
 use Rattle.amplitudelaws.specs.Correction.{corrected}
 use Rattle.amplitudelaws.specs.State.{state_of, point}
-use Rattle.amplitudelaws.specs.Sweeping.{Sweeping, sweeping_none, one_ahead, one_more, one_all}
+use Rattle.amplitudelaws.specs.Sweeping.{Sweeping, sweeping_none, one_ahead, one_more}
+use Rattle.amplitudelaws.proofs.Sweeping.{one_all}
 use Rattle.activepauli.specs.Active.{active_of}
 use borrow.Author.Rules.{rules}
 use Rattle.correction.proofs.moves.correct_alone.Goals as goal

@@ -11,7 +11,8 @@ use Rattle.amplitudelaws.specs.Binary.{binary, Point}
 use Rattle.amplitudelaws.specs.Correction.{corrected}
 use Rattle.amplitudelaws.specs.Pairing.{turn_inside, turn_more}
 use Rattle.amplitudelaws.specs.State.{state_of, point}
-use Rattle.amplitudelaws.specs.Sweeping.{Sweeping, sweeping_none, pair_all}
+use Rattle.amplitudelaws.specs.Sweeping.{Sweeping, sweeping_none}
+use Rattle.amplitudelaws.proofs.Sweeping.{pair_all}
 use Rattle.activepauli.specs.Active.{active_of}
 use borrow.Author.Rules.{rules}
 use Rattle.correction.proofs.moves.correct_pairs.Goals as goal

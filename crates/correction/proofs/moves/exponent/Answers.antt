@@ -3,7 +3,8 @@ use mathlib.Core.Bool.{true, false}
 use Prim.Native.Nat.{ℕ, zero, suc, ◌+◌, ◌*◌, ◌%◌, ◌<◌}
 use native.Mathlib.Omega.{arith}
 use lib.Dec.{eqb}
-use Rattle.bitlaws.specs.Parity.{overlap, overlap_lt}
+use Rattle.bitlaws.specs.Parity.{overlap}
+use Rattle.bitlaws.proofs.Parity.{overlap_lt}
 use borrow.Author.Rules.{rules}
 use Rattle.correction.proofs.moves.exponent.Goals as goal
 

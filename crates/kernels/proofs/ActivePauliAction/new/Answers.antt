@@ -13,7 +13,8 @@ use Rattle.answers.specs.Answer.Answer.{accepted}
 use Rattle.answers.specs.Row.{row, first, answered, answered_some, answered_none}
 use Rattle.masks.specs.MaskLaws.{Small}
 use Rattle.paulilaws.specs.Pauli.{Pauli, same}
-use Rattle.paulilaws.specs.Fitting.{Admitted, admitted_fits, admitted_beside}
+use Rattle.paulilaws.specs.Fitting.{Admitted, admitted_beside}
+use Rattle.paulilaws.proofs.Fitting.{admitted_fits}
 use Rattle.paulis.specs.Rows.{admitted}
 use Rattle.paulis.specs.Strings.{pauli_of}
 use Rattle.paulis.specs.declared.PauliString.{PauliString}

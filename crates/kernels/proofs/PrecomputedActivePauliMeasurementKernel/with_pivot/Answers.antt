@@ -4,7 +4,8 @@ use native.Mathlib.Omega.{arith}
 use Rattle.answers.specs.Answer.Answer.{accepted}
 use Rattle.answers.specs.Row.{answered_some, answered_none, first_passed}
 use Rattle.activepauli.specs.Active.{active_of}
-use Rattle.amplitudelaws.specs.Passed.{hermitian_passed, measurement_passed}
+use Rattle.amplitudelaws.specs.Passed.{hermitian_passed}
+use Rattle.amplitudelaws.proofs.Passed.{measurement_passed}
 use Rattle.amplitudelaws.specs.Rows.{hermitian_row, measurement_row, widest_kernel}
 use borrow.Author.Rules.{rules}
 use Rattle.kernels.proofs.PrecomputedActivePauliMeasurementKernel.with_pivot.Goals as goal

@@ -6,11 +6,13 @@ use Prim.Native.Nat.{ℕ, ◌-◌, ◌^◌, ◌≤◌, ◌<◌}
 use native.Mathlib.Omega.{arith}
 use lib.Ieee.{Float, unlike}
 use Rattle.bitlaws.specs.Digit.{bit_of}
-use Rattle.bitlaws.specs.Source.{source, source_ge}
+use Rattle.bitlaws.specs.Source.{source}
+use Rattle.bitlaws.proofs.Source.{source_ge}
 use Rattle.amplitudelaws.specs.Arithmetic.{scaled}
 use Rattle.amplitudelaws.specs.Binary.{binary, Point}
 use Rattle.amplitudelaws.specs.State.{State, state_of, point}
-use Rattle.amplitudelaws.specs.Sweeping.{Sweeping, sweeping_none, one_ahead, one_more, one_all}
+use Rattle.amplitudelaws.specs.Sweeping.{Sweeping, sweeping_none, one_ahead, one_more}
+use Rattle.amplitudelaws.proofs.Sweeping.{one_all}
 use Rattle.kernels.specs.Kernel.{MeasurementKernel, measurement_kernel_of}
 use Rattle.measurement.specs.Measured.{kernel_projected}
 use Rattle.measurement.proofs.Leaving.{room_half, pivot_low, output_low, source_inside, diagonal_left}

@@ -3,7 +3,8 @@ use Prim.Native.Nat.{◌-◌, ◌*◌, ◌%◌, ◌^◌, ◌≤◌}
 use native.Mathlib.Omega.{arith}
 use Rattle.bitlaws.specs.Digit.{one_shifted}
 use Rattle.amplitudelaws.specs.State.{state_of, point}
-use Rattle.amplitudelaws.specs.Sweeping.{Sweeping, sweeping_none, one_more, one_all}
+use Rattle.amplitudelaws.specs.Sweeping.{Sweeping, sweeping_none, one_more}
+use Rattle.amplitudelaws.proofs.Sweeping.{one_all}
 use Rattle.measurement.proofs.mixing.copy_back.Given as goal
 
 abbrev pub invariant-loop-j : goal.invariant-loop-j

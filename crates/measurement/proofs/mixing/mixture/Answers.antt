@@ -10,7 +10,7 @@ use lib.Ieee.{Float, nan_bits}
 use Rattle.bitlaws.specs.Digit.{bit_of}
 use Rattle.bitlaws.specs.Opening.{open_bit}
 use Rattle.bitlaws.specs.Parity.{overlap}
-use Rattle.statelaws.specs.Pairs.{low_lt, high_lt}
+use Rattle.statelaws.proofs.Pairs.{low_lt, high_lt}
 use Rattle.amplitudelaws.specs.Arithmetic.{mixed, scale, direction}
 use Rattle.amplitudelaws.specs.Binary.{binary, Point}
 use Rattle.amplitudelaws.specs.State.{state_of, point}

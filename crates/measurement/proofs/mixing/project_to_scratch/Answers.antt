@@ -6,7 +6,8 @@ use Rattle.bitlaws.specs.Digit.{bit_of}
 use Rattle.amplitudelaws.specs.Arithmetic.{scaled}
 use Rattle.amplitudelaws.specs.Binary.{binary, Point}
 use Rattle.amplitudelaws.specs.State.{State, state_of, point}
-use Rattle.amplitudelaws.specs.Sweeping.{Sweeping, sweeping_none, one_more, one_all}
+use Rattle.amplitudelaws.specs.Sweeping.{Sweeping, sweeping_none, one_more}
+use Rattle.amplitudelaws.proofs.Sweeping.{one_all}
 use Rattle.kernels.specs.Kernel.{MeasurementKernel, measurement_kernel_of}
 use Rattle.measurement.specs.Measured.{kernel_remaining, kernel_projected}
 use borrow.Author.Rules.{rules}

@@ -1,7 +1,7 @@
 use mathlib.Core.Path.{sym, ◌∙◌}
 use Rattle.answers.specs.Row.{row}
 use Rattle.framelaws.specs.PassRow.{widened_row}
-use Rattle.paulilaws.specs.Fitting.{fits_admitted}
+use Rattle.paulilaws.proofs.Fitting.{fits_admitted}
 use borrow.Author.Tests.{not-true, not-false}
 use mathlib.Core.Bool.{not}
 use mathlib.Core.Path.{ap}

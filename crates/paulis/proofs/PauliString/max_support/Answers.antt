@@ -1,7 +1,7 @@
 use mathlib.Core.Path.{sym, ap, ◌∙◌}
 use lib.Bits.{bit_or, or_lt}
 use Rattle.answers.specs.Answer.Answer.{accepted}
-use Rattle.bitlaws.specs.Highest.{highest_wider}
+use Rattle.bitlaws.proofs.Highest.{highest_wider}
 use Rattle.paulilaws.specs.Support.{max_support}
 use Rattle.paulis.specs.Calls.{support_call}
 use Rattle.paulis.specs.Rows.{no_pauli, a_pauli, admitted}

@@ -7,7 +7,8 @@ use Rattle.bitlaws.specs.Digit.{one_shifted}
 use Rattle.bitlaws.specs.Pairs.{pair_of}
 use Rattle.amplitudelaws.specs.Arithmetic.{scale}
 use Rattle.amplitudelaws.specs.Binary.{binary, Point}
-use Rattle.amplitudelaws.specs.Promotion.{raised, promoted, promoted_low, promoted_high}
+use Rattle.amplitudelaws.specs.Promotion.{raised, promoted, promoted_low}
+use Rattle.amplitudelaws.proofs.Promotion.{promoted_high}
 use Rattle.amplitudelaws.specs.Rows.{widest_promotion}
 use Rattle.amplitudelaws.specs.State.{state_of, point}
 use Rattle.amplitudelaws.specs.Sweeping.{Sweeping, sweeping_none}

@@ -9,7 +9,8 @@ use Rattle.amplitudelaws.specs.Arithmetic.{negated}
 use Rattle.amplitudelaws.specs.Binary.{binary, Point}
 use Rattle.amplitudelaws.specs.Rotation.{rotated_alone, rotated_diagonal}
 use Rattle.amplitudelaws.specs.State.{state_of, point}
-use Rattle.amplitudelaws.specs.Sweeping.{Sweeping, sweeping_none, one_ahead, one_more, one_all}
+use Rattle.amplitudelaws.specs.Sweeping.{Sweeping, sweeping_none, one_ahead, one_more}
+use Rattle.amplitudelaws.proofs.Sweeping.{one_all}
 use Rattle.complex.specs.Complex.{complex_of}
 use Rattle.rotation.proofs.diagonal.rotate_diagonal.Goals as goal
 

@@ -9,7 +9,8 @@ use Rattle.amplitudelaws.specs.Arithmetic.{direction, scale, mixed}
 use Rattle.amplitudelaws.specs.Binary.{binary, Point}
 use Rattle.amplitudelaws.specs.Rotation.{rotated_pairs}
 use Rattle.amplitudelaws.specs.State.{state_of, point}
-use Rattle.amplitudelaws.specs.Sweeping.{Sweeping, sweeping_none, pair_all}
+use Rattle.amplitudelaws.specs.Sweeping.{Sweeping, sweeping_none}
+use Rattle.amplitudelaws.proofs.Sweeping.{pair_all}
 use Rattle.complex.specs.Complex.{complex_of}
 use Rattle.amplitudelaws.specs.Pairing.{turn_inside, turn_more}
 use Rattle.rotation.proofs.pairs.rotate_pairs.Given as goal

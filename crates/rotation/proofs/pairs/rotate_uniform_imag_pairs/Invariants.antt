@@ -8,7 +8,8 @@ use Rattle.amplitudelaws.specs.Arithmetic.{negated}
 use Rattle.amplitudelaws.specs.Binary.{binary, Point}
 use Rattle.amplitudelaws.specs.Rotation.{rotated_with}
 use Rattle.amplitudelaws.specs.State.{state_of, written}
-use Rattle.amplitudelaws.specs.Sweeping.{Sweeping, sweeping_none, pair_all}
+use Rattle.amplitudelaws.specs.Sweeping.{Sweeping, sweeping_none}
+use Rattle.amplitudelaws.proofs.Sweeping.{pair_all}
 use Rattle.complex.specs.Complex.{complex_of}
 use Rattle.amplitudelaws.specs.Pairing.{paired, turn_inside, turn_more}
 use Rattle.rotation.proofs.pairs.rotate_uniform_imag_pairs.Given as goal

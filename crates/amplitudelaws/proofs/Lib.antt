@@ -1,0 +1,5 @@
+pub mod Promotion
+pub mod Sweeping
+pub mod Near
+pub mod Passed
+pub mod Book

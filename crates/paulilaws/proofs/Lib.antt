@@ -1,0 +1,9 @@
+pub mod Action
+pub mod Algebra
+pub mod Letter
+pub mod Support
+pub mod Fitting
+pub mod Frame
+pub mod Exchange
+pub mod Printed
+pub mod AntiMask

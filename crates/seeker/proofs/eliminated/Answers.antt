@@ -11,4 +11,4 @@ unfolding remainder
 returns c =
     let bits : ℕ = c.args.end.nqubits + c.args.end.nqubits in
     rw (sym c.requires.0.last)
-    (c.eliminate.ensures.0 ∙ ap₂ (λ (words : List ℕ) (word : ℕ). word_after bits words word) c.write_words.ensures c.mask_word.ensures)
+    (c.eliminate.ensures.word ∙ ap₂ (λ (words : List ℕ) (word : ℕ). word_after bits words word) c.write_words.ensures c.mask_word.ensures)

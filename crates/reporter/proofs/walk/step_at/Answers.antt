@@ -27,12 +27,8 @@ use Rattle.steps.specs.Meaning.{cursor_of, step_of, read_of}
 use borrow.Enum.Refused.{opened}
 use borrow.Author.Rules.{rules}
 use Rattle.reporter.proofs.walk.step_at.Goals as goal
+use Rattle.reporter.proofs.walk.step_at.Invariants.{Underway}
 use Rattle.reporter.proofs.walk.step_at.Goals.{In-Past, In-Step}
-
-record Underway (caller : Caller) (s : List ℕ) (asked : Option (Framed Float)) (c : Cursor) (Q : Pauli) (left : ℕ) : Type 0 where
-  steps : List (Step Float)
-  going : Going caller s c Q steps
-  is : get_elem? (framed_steps Q steps) left ≡ asked
 
 module _ {caller : Caller} {s : List ℕ} {asked : Option (Framed Float)} {c d : Cursor} {Q : Pauli} {left : ℕ} (w : Underway caller s asked c Q left)
     {t : Step Float} (g : Gone caller s c Q w.steps t d) where
@@ -72,8 +68,7 @@ returns-in_default-past c =
 taken : (c : In-Past) → let Q = active_of c.loop-step.held in
     active_of c.in-Past.behind ≡ passed Q (step_of c.in-Step.step)
 taken c =
-    let to = c.behind-1.given.0 in
-    (past_is _ _ (gone c.before.before.before.before.before).row c.in-Past.field-0 c.in-Past.behind (ap pass_answer_of (sym c.in-Past.is) ∙ c.past.ensures)).1
+    (past_is _ _ (going_step c.loop-step.invariant.going _ _ (sym c.read-got.ensures ∙ ap read_of c.in-Step.is)).row c.in-Past.field-0 c.in-Past.behind (ap pass_answer_of (sym c.in-Past.is) ∙ c.past.ensures)).1
 
 pub loop-step-smaller : goal.loop-step-smaller
 loop-step-smaller c = (gone (goal.at.loop-step-smaller c).In-Step).less

@@ -23,6 +23,11 @@ use Rattle.steps.specs.Meaning.{cursor_of, step_of, read_of}
 use borrow.Enum.Refused.{opened}
 use Rattle.reporter.proofs.walk.step_at.Given as goal
 
+pub record Underway (caller : Caller) (s : List ℕ) (asked : Option (Framed Float)) (c : Cursor) (Q : Pauli) (left : ℕ) : Type 0 where
+  pub steps : List (Step Float)
+  pub going : Going caller s c Q steps
+  pub is : get_elem? (framed_steps Q steps) left ≡ asked
+
 abbrev pub invariant-loop-step : goal.invariant-loop-step
 invariant-loop-step l =
     Underway (caller_of l.caller) l.run (get_elem? (framed_steps (active_of l.initial.held) (run_in (caller_of l.caller) l.run).steps) l.number) (cursor_of l.cursor) (active_of l.held) l.left

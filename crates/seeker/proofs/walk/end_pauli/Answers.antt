@@ -22,11 +22,8 @@ use Rattle.seeker.specs.Seekable.{steps_in}
 use borrow.Enum.Refused.{opened}
 use borrow.Author.Rules.{rules}
 use Rattle.seeker.proofs.walk.end_pauli.Goals as goal
+use Rattle.seeker.proofs.walk.end_pauli.Invariants.{Underway}
 use Rattle.seeker.proofs.walk.end_pauli.Goals.{In-Past, In-Step}
-
-record Underway (caller : Caller) (s : List ℕ) (last : Pauli) (c : Cursor) (Q : Pauli) : Type 0 where
-  steps : List (Step Float)
-  passing : Passing caller s last c Q steps
 
 pub loop-step-init : goal.loop-step-init
 loop-step-init c = record { steps = _; passing = passing_outset _ _ _ c.requires }
@@ -45,8 +42,7 @@ returns-in_default-past c =
 taken : (c : In-Past) → let Q = active_of c.loop-step.held in
     active_of c.in-Past.behind ≡ passed Q (step_of c.in-Step.step)
 taken c =
-    let to = c.behind-1.given.0 in
-    (past_is _ _ (gone c.before.before.before.before).row c.in-Past.field-0 c.in-Past.behind (ap pass_answer_of (sym c.in-Past.is) ∙ c.past.ensures)).1
+    (past_is _ _ (going_step c.loop-step.invariant.passing.going _ _ (sym c.read-got.ensures ∙ ap read_of c.in-Step.is)).row c.in-Past.field-0 c.in-Past.behind (ap pass_answer_of (sym c.in-Past.is) ∙ c.past.ensures)).1
 
 pub loop-step-smaller : goal.loop-step-smaller
 loop-step-smaller c = (gone (goal.at.loop-step-smaller c).In-Step).less

@@ -19,6 +19,10 @@ use Rattle.seeker.specs.Seekable.{steps_in}
 use borrow.Enum.Refused.{opened}
 use Rattle.seeker.proofs.walk.end_pauli.Given as goal
 
+pub record Underway (caller : Caller) (s : List ℕ) (last : Pauli) (c : Cursor) (Q : Pauli) : Type 0 where
+  pub steps : List (Step Float)
+  pub passing : Passing caller s last c Q steps
+
 abbrev pub invariant-loop-step : goal.invariant-loop-step
 invariant-loop-step l =
     Underway (caller_of l.caller) l.run (end_pauli (active_of l.initial.held) (steps_in (caller_of l.caller) l.run)) (cursor_of l.cursor) (active_of l.held)

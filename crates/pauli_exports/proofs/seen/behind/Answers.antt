@@ -8,8 +8,7 @@ use Rattle.verdicts.specs.Flag.{behind}
 use Rattle.verdicts.specs.Verdict.{verdict_of, seen_as}
 use Rattle.verdicts.specs.declared.Verdict.{Verdict}
 use borrow.Author.Rules.{rules}
-use Rattle.pauli_exports.proofs.seen.behind.Statement.{statement}
-use Rattle.pauli_exports.proofs.seen.behind.Tie as tie
+use Rattle.pauli_exports.proofs.seen.behind.Goals as goal
 
 module _ {A : Type 0} where
   none : (a : Answer A) → behind a 0 ≡ a
@@ -31,24 +30,15 @@ module _ {A : Type 0} where
   passed (refused n) r k e z h = absurd (omega arith)
   passed (refused_at n at) r k e z h = absurd (omega arith)
 
-returns : tie.Need-returns
-returns c = λ a s. rw c.if1.true (seen_as s (sym (none a)))
+pub returns-then-row-eq0 : goal.returns-then-row-eq0
+returns-then-row-eq0 c = λ a s. rw c.if-row-eq0.true (seen_as s (sym (none a)))
 
-returns-2 : tie.Need-returns-2
-returns-2 c =
-    let row = c.before.before.before.before.args.row in
-    λ a s. seen_as s (sym (kept a row _ (ap (λ (v : Verdict). v.kind) s.verdict) c.if2.true))
+pub returns-then-verdict-ne0 : goal.returns-then-verdict-ne0
+returns-then-verdict-ne0 c =
+    let row = c.args.row in
+    λ a s. seen_as s (sym (kept a row _ (ap (λ (v : Verdict). v.kind) s.verdict) c.if-verdict-ne0.true))
 
-refused-requires : tie.Need-refused-requires
-refused-requires c κs = search rules
-
-pauli-requires : tie.Need-pauli-requires
-pauli-requires c κs = search rules
-
-returns-3 : tie.Need-returns-3
-returns-3 c =
-    let row = c.before.before.before.before.before.before.args.row in
-    λ a s. seen_as (c.pauli.ensures _ c.before.refused.ensures) (sym (passed a row _ (ap (λ (v : Verdict). v.kind) s.verdict) c.before.before.if2.false c.before.before.before.before.if1.false))
-
-pub behind-spec : {M : Type 1} → statement M
-behind-spec = tie.close (tie.spec returns returns-2 refused-requires pauli-requires returns-3)
+pub returns : goal.returns
+returns c =
+    let row = c.args.row in
+    λ a s. seen_as (c.pauli.ensures _ c.refused.ensures) (sym (passed a row _ (ap (λ (v : Verdict). v.kind) s.verdict) c.if-verdict-ne0.false c.if-row-eq0.false))

@@ -2,8 +2,7 @@ use mathlib.Core.Path.{◌≡◌, refl}
 use Prim.Native.Nat.{ℕ, zero, suc}
 use Rattle.paulilaws.specs.Letter.{Letter, letter_of}
 use borrow.Author.Rules.{rules}
-use Rattle.pauli_exports.proofs.letter.Statement.{statement}
-use Rattle.pauli_exports.proofs.letter.Tie as tie
+use Rattle.pauli_exports.proofs.letter.Goals as goal
 
 module _ (x z : ℕ) where
   only_z : (z ≡ 0 → ⊥) → x ≡ 0 → Letter.Z ≡ letter_of x z
@@ -25,17 +24,11 @@ both zero z h k = absurd (h refl)
 both (suc x) zero h k = absurd (k refl)
 both (suc x) (suc z) h k = refl
 
-returns : tie.Need-returns
-returns c = search rules
+pub returns-else-z-eq0 : goal.returns-else-z-eq0
+returns-else-z-eq0 c = only_z c.args.x c.args.z c.if-z-eq0.false c.if-x-eq0.true
 
-returns-2 : tie.Need-returns-2
-returns-2 c = only_z c.before.before.args.x c.before.before.args.z c.if2.false c.before.if1.true
+pub returns-then-z-eq0-2 : goal.returns-then-z-eq0-2
+returns-then-z-eq0-2 c = only_x c.args.x c.args.z c.if-x-eq0.false c.if-z-eq0-2.true
 
-returns-3 : tie.Need-returns-3
-returns-3 c = only_x c.before.before.args.x c.before.before.args.z c.before.if1.false c.if3.true
-
-returns-4 : tie.Need-returns-4
-returns-4 c = both c.before.before.args.x c.before.before.args.z c.before.if1.false c.if3.false
-
-pub letter-spec : {M : Type 1} → statement M
-letter-spec = tie.close (tie.spec returns returns-2 returns-3 returns-4)
+pub returns-else-z-eq0-2 : goal.returns-else-z-eq0-2
+returns-else-z-eq0-2 c = both c.args.x c.args.z c.if-x-eq0.false c.if-z-eq0-2.false

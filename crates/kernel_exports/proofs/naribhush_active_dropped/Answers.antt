@@ -1,0 +1,6 @@
+use Rattle.verdicts.specs.Verdict.{seen_as}
+use borrow.Author.Rules.{rules}
+use Rattle.kernel_exports.proofs.naribhush_active_dropped.Goals as goal
+
+pub returns : goal.returns
+returns c = seen_as c.pauli.ensures c.dropped.ensures

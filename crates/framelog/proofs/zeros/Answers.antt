@@ -2,11 +2,7 @@
 use Prim.Native.Nat.{ℕ}
 use mathlib.Core.Path.{sym}
 use lib.ListN.{length-replicate}
-use Rattle.framelog.proofs.zeros.Statement.{statement}
-use Rattle.framelog.proofs.zeros.Tie as tie
+use Rattle.framelog.proofs.zeros.Goals as goal
 
-returns : tie.Need-returns
+pub returns : goal.returns
 returns c = sym (length-replicate {A = ℕ} 2201 0)
-
-pub zeros-spec : {M : Type 1} → statement M
-zeros-spec = tie.close (tie.spec returns)

@@ -1,0 +1,36 @@
+use mathlib.Core.Path.{sym, ap, ◌∙◌}
+use native.Mathlib.Omega.{arith}
+use Rattle.activepauli.specs.Active.{active_of}
+use Rattle.callers.specs.Meaning.{caller_of}
+use Rattle.checker.specs.Meaning.{checked_of}
+use Rattle.framelog.proofs.Answered.{not_judged, started, judge_refused, judge_ready, judged}
+use borrow.Author.Rules.{rules}
+use Rattle.framelog.proofs.judge_for.Goals as goal
+
+pub log_size-size-requires : goal.log_size-size-requires
+log_size-size-requires c =
+    let a = c.args in
+    started (caller_of a.caller) a.run.now (active_of a.pauli) (sym c.check_with_start.ensures ∙ ap checked_of c.in-Run.is)
+
+pub returns-then-row-ne0 : goal.returns-then-row-ne0
+returns-then-row-ne0 c =
+    let a = c.args in
+    judge_refused (caller_of a.caller) a.run.now (active_of a.pauli) (sym c.check_with_start.ensures ∙ ap checked_of c.in-Run.is)
+    c.log_size-size.ensures a.log.now c.log_row-row.ensures (λ none. omega (arith, c.if-row-ne0.true))
+
+pub is_right-requires : goal.is_right-requires
+is_right-requires c =
+    let a = c.args in
+    judge_ready (caller_of a.caller) a.run.now (active_of a.pauli) (sym c.check_with_start.ensures ∙ ap checked_of c.in-Run.is)
+    c.log_size-size.ensures a.log.now c.log_row-row.ensures (omega (arith, c.if-row-ne0.false))
+
+pub returns-in-Refused : goal.returns-in-Refused
+returns-in-Refused c =
+    let a = c.args in
+    not_judged (caller_of a.caller) a.run.now (active_of a.pauli) _ _ (sym c.check_with_start.ensures ∙ ap checked_of c.in-Refused.is) a.log.now
+
+pub returns-else-row-ne0 : goal.returns-else-row-ne0
+returns-else-row-ne0 c =
+    let a = c.args in
+    judged (caller_of a.caller) a.run.now (active_of a.pauli) (sym c.check_with_start.ensures ∙ ap checked_of c.in-Run.is)
+    c.log_size-size.ensures a.log.now c.log_row-row.ensures (omega (arith, c.if-row-ne0.false)) _ c.is_right.ensures

@@ -54,7 +54,7 @@ fn carry_for(run: &[u8], pauli: ActivePauli, out: &mut [u8], caller: Caller) -> 
             if row != 0 {
                 return CarryAnswer::Refused(row);
             }
-            bytes::copy(run, out);
+            octets::copy(run, out);
             let last = carry_steps(run, pauli, out, caller);
             CarryAnswer::Carried(last)
         }

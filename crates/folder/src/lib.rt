@@ -95,7 +95,7 @@ fn fold_steps(run: &[u8], width: usize, out: &mut [u8], caller: Caller) -> Activ
         width,
     };
     let mut held = past::identity(width);
-    let mut to = bytes::copy(&run[0..fields::START_BYTES], out);
+    let mut to = octets::copy(&run[0..fields::START_BYTES], out);
     loop {
         let got = reader::read(run, cursor, caller);
         let Read::Step(step, next) = got else {
@@ -109,6 +109,6 @@ fn fold_steps(run: &[u8], width: usize, out: &mut [u8], caller: Caller) -> Activ
         cursor = next;
     }
     let from = cursor.at;
-    bytes::copy(&run[from..], &mut out[to..]);
+    octets::copy(&run[from..], &mut out[to..]);
     held
 }

@@ -88,7 +88,7 @@ fn write_field(field: &[u8], pauli: ActivePauli, step: Step, out: &mut [u8]) -> 
         // Never: no row refuses.
         return 0;
     };
-    let size = bytes::copy(field, out);
+    let size = octets::copy(field, out);
     flags::write_flag(&mut out[0..size], 0, carried);
     size
 }

@@ -20,7 +20,7 @@ fn main() {
 fn answer_lines(input: &[u8]) {
     let mut start = 0;
     while start < input.len() {
-        let end = bytes::scan::find(input, start, input.len(), b'\n');
+        let end = octets::scan::find(input, start, input.len(), b'\n');
         answer(&input[start..end]);
         show::byte(b'\n');
         if end == input.len() {
@@ -39,7 +39,7 @@ fn answer(line: &[u8]) {
         io::write_all(STDOUT_FILENO, line);
         return;
     }
-    let end = bytes::scan::find(line, 0, line.len(), b' ');
+    let end = octets::scan::find(line, 0, line.len(), b' ');
     with_run(name::call(&line[0..end]), &line[end..]);
 }
 
@@ -49,7 +49,7 @@ fn with_run(call: u8, text: &[u8]) {
         show::unread();
         return;
     }
-    let end = bytes::scan::find(text, 1, text.len(), b' ');
+    let end = octets::scan::find(text, 1, text.len(), b' ');
     let mut space = run_text::room(0);
     let n = run_text::run(&text[1..end], &mut space);
     if 66000 < n {
@@ -69,7 +69,7 @@ fn with_log(call: u8, run: &[u8], text: &[u8]) {
         show::unread();
         return;
     }
-    let end = bytes::scan::find(text, 1, text.len(), b' ');
+    let end = octets::scan::find(text, 1, text.len(), b' ');
     let mut space = run_text::room(0);
     let n = run_text::run(&text[1..end], &mut space);
     if 66000 < n {

@@ -27,8 +27,8 @@ fn answer(line: &[u8]) {
         io::write_all(STDOUT_FILENO, line);
         return;
     }
-    let end = bytes::scan::find(line, 0, line.len(), b' ');
-    let bar = bytes::scan::find(line, end, line.len(), b'|');
+    let end = octets::scan::find(line, 0, line.len(), b' ');
+    let bar = octets::scan::find(line, end, line.len(), b'|');
     let call = read::call(&line[0..end]);
     let mut words = [0u64; 12];
     let count = read::words(read::trimmed(&line[end..bar]), &mut words);
@@ -59,7 +59,7 @@ fn alone(call: u8, words: [u64; 12], left: usize) {
 pub fn answer_lines(input: &[u8]) {
     let mut start = 0;
     while start < input.len() {
-        let end = bytes::scan::find(input, start, input.len(), b'\n');
+        let end = octets::scan::find(input, start, input.len(), b'\n');
         answer(&input[start..end]);
         show::byte(b'\n');
         if end == input.len() {

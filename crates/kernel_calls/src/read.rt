@@ -130,7 +130,7 @@ pub fn words(text: &[u8], words: &mut [u64; 12]) -> usize {
     let mut at = 0;
     while at < text.len() {
         let start = at + 1;
-        let end = bytes::scan::find(text, start, text.len(), b' ');
+        let end = octets::scan::find(text, start, text.len(), b' ');
         let Parsed::Value(value) = number(&text[start..end]) else {
             return usize::MAX;
         };
@@ -156,7 +156,7 @@ pub fn floats(text: &[u8], out: &mut [f64]) -> Part
     if text.len() == 0 {
         return unread;
     }
-    let next = bytes::scan::find(text, 1, text.len(), b'|');
+    let next = octets::scan::find(text, 1, text.len(), b'|');
     let mut words = [0u64; 160];
     let count = form::words(trimmed(&text[1..next]), &mut words);
     fill(&words, out);

@@ -97,5 +97,5 @@ fn put(text: &[u8], at: usize, out: &mut [u8]) -> usize
     ensures value { result ≡ at + length text.now }
     ensures out_after { out.new ≡ sets out.old at text.now }
 {
-    at + bytes::copy(text, &mut out[at..])
+    at + octets::copy(text, &mut out[at..])
 }

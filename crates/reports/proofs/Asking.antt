@@ -10,7 +10,7 @@ use borrow.Author.Tests.{lt-ltb, le-ltb}
 use lib.ListN.{length, take, drop, length-drop, drop_of_length-le}
 use lib.Seq.{take_all}
 use Rattle.bitlaws.specs.Order.{le_or_lt}
-use Rattle.bytes.specs.Bytes.{index_of, slice}
+use Rattle.octets.specs.Bytes.{index_of, slice}
 use Rattle.paulilaws.specs.Pauli.{Pauli}
 use Rattle.paulis.specs.Strings.{pauli_of}
 use Rattle.paulitext.specs.Calls.{Read, read_call, reading_of}

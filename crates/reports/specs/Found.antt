@@ -1,11 +1,11 @@
--- A byte that `bytes` finds parts a text as it is read.
+-- A byte that `octets` finds parts a text as it is read.
 use Rattle.std.specs.Prelude.{◌≡◌, refl, Bool, true, false, cond, List, [], ◌∷◌, ℕ, suc, ◌+◌, eqb, ltb, length, take, drop}
 use Rattle.std.proofs.Math.Path.{ap}
 use Rattle.std.proofs.Common.{◌∙◌, arith, lt-ltb}
 use Rattle.std.proofs.Math.Nat.{zero-add}
 use Rattle.std.proofs.Math.Dec.{leb-suc-suc}
 use Rattle.std.proofs.Math.Seq.{take-length}
-use Rattle.bytes.specs.Bytes.{index_of, index_after, slice}
+use Rattle.octets.specs.Bytes.{index_of, index_after, slice}
 use Rattle.reports.specs.Input.{before, after, has}
 
 index_before : (b : ℕ) (s : List ℕ) → take (index_of b s) s ≡ before b s

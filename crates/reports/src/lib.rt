@@ -96,14 +96,14 @@ fn whole(text: &[u8], out: &mut [u8]) -> TextAnswer
     if out.len() < text.len() {
         return TextAnswer::Refused(16);
     }
-    TextAnswer::Length(bytes::copy(text, out))
+    TextAnswer::Length(octets::copy(text, out))
 }
 
 // What the whole input asks for: a line with a Pauli's text and, behind a space, a step's number; then the run.
 pub fn list_report(input: &[u8], out: &mut [u8]) -> TextAnswer
     ensures { Lined (report_listed input.now) out.old result out.new }
 {
-    let end = bytes::scan::find(input, 0, input.len(), b'\n');
+    let end = octets::scan::find(input, 0, input.len(), b'\n');
     let from = behind(end, input.len());
     list_line(&input[..end], &input[from..], out)
 }
@@ -123,7 +123,7 @@ fn list_line(line: &[u8], run: &[u8], out: &mut [u8]) -> TextAnswer
     ensures { let text = answer_text (asked line.now run.now) (read_call (before 32 line.now)) in
         Lined text out.old result out.new }
 {
-    let space = bytes::scan::find(line, 0, line.len(), b' ');
+    let space = octets::scan::find(line, 0, line.len(), b' ');
     let read = paulitext::pauli_string(&line[..space]);
     let reading = read.reading;
     match reading {
@@ -137,7 +137,7 @@ fn list_line(line: &[u8], run: &[u8], out: &mut [u8]) -> TextAnswer
 fn list_asked(line: &[u8], run: &[u8], pauli: ActivePauli, out: &mut [u8]) -> TextAnswer
     ensures { Lined (asked line.now run.now (active_of pauli)) out.old result out.new }
 {
-    let space = bytes::scan::find(line, 0, line.len(), b' ');
+    let space = octets::scan::find(line, 0, line.len(), b' ');
     if space < line.len() {
         let from = space + 1;
         return list_step(run, pauli, input::number(&line[from..]), out);

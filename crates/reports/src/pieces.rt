@@ -18,7 +18,7 @@ pub(crate) fn put(text: &[u8], at: usize, out: &mut [u8]) -> usize
     requires { at + length text.now ≤ length out.old }
     ensures { Stored text.now at out.old result out.new }
 {
-    at + bytes::copy(text, &mut out[at..])
+    at + octets::copy(text, &mut out[at..])
 }
 
 // A number in decimal.

@@ -25,7 +25,7 @@ fn answer(line: &[u8]) {
         io::write_all(STDOUT_FILENO, line);
         return;
     }
-    let end = bytes::scan::find(line, 0, line.len(), b' ');
+    let end = octets::scan::find(line, 0, line.len(), b' ');
     with_run(text::call(&line[0..end]), &line[end..]);
 }
 
@@ -34,7 +34,7 @@ fn with_run(call: u8, text: &[u8]) {
         show::unread();
         return;
     }
-    let end = bytes::scan::find(text, 1, text.len(), b' ');
+    let end = octets::scan::find(text, 1, text.len(), b' ');
     let mut space = run_text::room(0);
     let n = run_text::run(&text[1..end], &mut space);
     if 66000 < n {
@@ -45,7 +45,7 @@ fn with_run(call: u8, text: &[u8]) {
 }
 
 fn with_words(call: u8, run: &[u8], text: &[u8]) {
-    let bar = bytes::scan::find(text, 0, text.len(), b'|');
+    let bar = octets::scan::find(text, 0, text.len(), b'|');
     let mut words = [0u64; 12];
     let count = read::words(read::trimmed(&text[0..bar]), &mut words);
     if count != text::arity(call) {
@@ -59,7 +59,7 @@ fn with_words(call: u8, run: &[u8], text: &[u8]) {
 pub fn answer_lines(input: &[u8]) {
     let mut start = 0;
     while start < input.len() {
-        let end = bytes::scan::find(input, start, input.len(), b'\n');
+        let end = octets::scan::find(input, start, input.len(), b'\n');
         answer(&input[start..end]);
         show::byte(b'\n');
         if end == input.len() {

@@ -105,9 +105,9 @@ fn corrected(run: &[u8], at: usize, field: [u8; CORRECTION_BYTES], file: &mut [u
         return usize::MAX;
     }
     let behind = at + CORRECTION_BYTES;
-    bytes::copy(&run[0..at], file);
-    bytes::copy(&field, &mut file[at..]);
-    bytes::copy(&run[at..], &mut file[behind..]);
+    octets::copy(&run[0..at], file);
+    octets::copy(&field, &mut file[at..]);
+    octets::copy(&run[at..], &mut file[behind..]);
     run.len() + CORRECTION_BYTES
 }
 

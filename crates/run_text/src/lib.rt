@@ -21,7 +21,7 @@ pub fn run(text: &[u8], out: &mut [u8]) -> usize {
     let mut size = 0;
     let mut start = 0;
     while start < text.len() {
-        let end = bytes::scan::find(text, start, text.len(), b',');
+        let end = octets::scan::find(text, start, text.len(), b',');
         size = piece(&text[start..end], out, size);
         if end == text.len() {
             return size;
@@ -33,7 +33,7 @@ pub fn run(text: &[u8], out: &mut [u8]) -> usize {
 
 // One piece, written from `at` on; the place behind it.
 fn piece(text: &[u8], out: &mut [u8], at: usize) -> usize {
-    let star = bytes::scan::find(text, 0, text.len(), b'*');
+    let star = octets::scan::find(text, 0, text.len(), b'*');
     if star == text.len() {
         return hex(text, out, at);
     }

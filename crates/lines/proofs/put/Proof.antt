@@ -1,4 +1,4 @@
--- `put` stores the text from `at` on, by `bytes::copy` on what stands from there.
+-- `put` stores the text from `at` on, by `octets::copy` on what stands from there.
 use mathlib.Core.Path.{refl, ap, ◌∙◌}
 use mathlib.Core.List.{List, ◌++◌}
 use Prim.Native.Nat.{ℕ, ◌+◌, ◌-◌}

@@ -1,6 +1,7 @@
 // The service's ledger: runs offered, finished and refused, in 64 bits, each going round to 0 after
 // 2^64 - 1. Only running is offered to it; checking and carrying are not. It counts none of the emulator's runs.
 #![tactic(auto)]
+ghost use Rattle.amplitudelaws.specs.Memory.{memory_of};
 ghost use Rattle.std.specs.Prelude.{◌≡◌};
 ghost use Rattle.framelaws.specs.Caller.{service, emulator};
 ghost use Rattle.runlaws.specs.Calls.{running};
@@ -57,11 +58,11 @@ impl Ledger {
         scratch_re: &mut [f64],
         scratch_im: &mut [f64],
     ) -> Served
-        ensures fact { let m = memory re im scratch_re scratch_im in
-            let did = running service run.now m.entry in
-            (run_answer_of result.answer ≡ did.answer) × (m.exit ≡ did.lent) }
-        ensures ledger_value { let m = memory re im scratch_re scratch_im in
-            let call : history.Call = record { run = run.entry.now; memory = m.entry } in
+        ensures fact { let m = memory_of re.old im.old scratch_re.old scratch_im.old in
+            let did = running service run.now m in
+            (run_answer_of result.answer ≡ did.answer) × (memory_of re.new im.new scratch_re.new scratch_im.new ≡ did.lent) }
+        ensures ledger_value { let m = memory_of re.old im.old scratch_re.old scratch_im.old in
+            let call : history.Call = record { run = run.now; memory = m } in
             ledger_of result.ledger ≡ history.after (history.serving call) (ledger_of self) }
     {
         let answer = runner::run_contiguous(run, re, im, scratch_re, scratch_im);
@@ -79,11 +80,11 @@ impl Ledger {
         scratch_re: &mut [f64],
         scratch_im: &mut [f64],
     ) -> Served
-        ensures fact { let m = memory re im scratch_re scratch_im in
-            let did = running emulator run.now m.entry in
-            (run_answer_of result.answer ≡ did.answer) × (m.exit ≡ did.lent) }
-        ensures ledger_value { let m = memory re im scratch_re scratch_im in
-            let call : history.Call = record { run = run.entry.now; memory = m.entry } in
+        ensures fact { let m = memory_of re.old im.old scratch_re.old scratch_im.old in
+            let did = running emulator run.now m in
+            (run_answer_of result.answer ≡ did.answer) × (memory_of re.new im.new scratch_re.new scratch_im.new ≡ did.lent) }
+        ensures ledger_value { let m = memory_of re.old im.old scratch_re.old scratch_im.old in
+            let call : history.Call = record { run = run.now; memory = m } in
             ledger_of result.ledger ≡ history.after (history.emulating call) (ledger_of self) }
     {
         let answer = runner::run_emulated(run, re, im, scratch_re, scratch_im);

@@ -131,7 +131,7 @@ pub extern "C" fn naribhush_serve_emulated(
         let did = running emulator run.now m in
         Seen result.ending.verdict (seen_ending_of result.ending) no_ending did.answer × (memory_of re.new im.new scratch_re.new scratch_im.new ≡ did.lent) }
     ensures ledger_value { let m = memory_of re.old im.old scratch_re.old scratch_im.old in
-        let call : history.Call = record { run = run.entry.now; memory = m } in
+        let call : history.Call = record { run = run.now; memory = m } in
         ledger_of result.ledger ≡ history.after (history.emulating call) (ledger_of ledger) }
 {
     let served = ledger.serve_emulated(run, re, im, scratch_re, scratch_im);

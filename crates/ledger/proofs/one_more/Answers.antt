@@ -11,4 +11,4 @@ as_digit false = refl
 
 pub returns : goal.returns
 unfolding raised_by
-returns c = c.wrapping_add_u64.ensures ∙ ap (λ (d : ℕ). (c.args.count + d) % 2 ^ 64) (as_digit c.args.more)
+returns c = c.wrapping_add_u64.ensures.value ∙ ap (λ (d : ℕ). (c.args.count + d) % 2 ^ 64) (as_digit c.args.more)

@@ -12,20 +12,20 @@ put_bit-requires-in-Projection c = unfold flag_of in rw c.in-Projection.is at c.
 
 pub returns-in-Rotation : goal.returns-in-Rotation
 unfolding flag_of
-returns-in-Rotation c = rw c.in-Rotation.is c.put_bit.ensures
+returns-in-Rotation c = rw c.in-Rotation.is (record { value = c.put_bit.ensures.0; out_after = c.put_bit.ensures.1 })
 
 pub returns-in-Promotion : goal.returns-in-Promotion
 unfolding flag_of
-returns-in-Promotion c = rw c.in-Promotion.is (omega arith, refl)
+returns-in-Promotion c = rw c.in-Promotion.is (record { value = omega arith; out_after = refl })
 
 pub returns-in-Projection : goal.returns-in-Projection
 unfolding flag_of
-returns-in-Projection c = rw c.in-Projection.is c.put_bit-in-Projection.ensures
+returns-in-Projection c = rw c.in-Projection.is (record { value = c.put_bit-in-Projection.ensures.0; out_after = c.put_bit-in-Projection.ensures.1 })
 
 pub returns-in-Correction : goal.returns-in-Correction
 unfolding flag_of
-returns-in-Correction c = rw c.in-Correction.is (omega arith, refl)
+returns-in-Correction c = rw c.in-Correction.is (record { value = omega arith; out_after = refl })
 
 pub returns-in-QuarterTurn : goal.returns-in-QuarterTurn
 unfolding flag_of
-returns-in-QuarterTurn c = rw c.in-QuarterTurn.is (omega arith, refl)
+returns-in-QuarterTurn c = rw c.in-QuarterTurn.is (record { value = omega arith; out_after = refl })

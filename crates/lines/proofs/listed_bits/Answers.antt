@@ -7,8 +7,7 @@ use Rattle.floatlaws.specs.Same.{is_zero}
 use Rattle.floatlaws.proofs.Zero.{equals_zero}
 use Rattle.lines.specs.Lines.{bits_of, listed_bits}
 use borrow.Author.Rules.{rules}
-use Rattle.lines.proofs.listed_bits.Statement.{statement}
-use Rattle.lines.proofs.listed_bits.Tie as tie
+use Rattle.lines.proofs.listed_bits.Goals as goal
 
 zero_listed : (x : Float) → eq x (fin false 0 (pos 0)) ≡ true → 0 ≡ listed_bits x
 unfolding listed_bits
@@ -18,16 +17,10 @@ other_listed : (x : Float) → eq x (fin false 0 (pos 0)) ≡ false → bits_of 
 unfolding listed_bits
 other_listed x h = let is : is_zero x ≡ false = sym (equals_zero x) ∙ h in rw is
 
-returns : tie.Need-returns
+pub returns-then-x : goal.returns-then-x
 unfolding of_bits
-returns c = zero_listed c.before.args.x c.if1.true
+returns-then-x c = zero_listed c.args.x c.if-x.true
 
-bits-requires : tie.Need-bits-requires
-bits-requires c κs = search rules
-
-returns-2 : tie.Need-returns-2
+pub returns : goal.returns
 unfolding of_bits
-returns-2 c = c.bits.ensures ∙ other_listed c.before.before.args.x c.before.if1.false
-
-pub listed-bits-spec : {M : Type 1} → statement M
-listed-bits-spec = tie.close (tie.spec returns bits-requires returns-2)
+returns c = c.bits.ensures ∙ other_listed c.args.x c.if-x.false

@@ -42,7 +42,7 @@ taken : (c : In-Past) → let Q = active_of c.loop-step.held in
     let t = step_of c.in-Step.step in
     (step_of c.in-Past.carried ≡ carried_step Q t) × (active_of c.in-Past.behind ≡ passed Q t)
 taken c =
-    past_is _ _ (gone c.before.before.before.before).row c.in-Past.carried c.in-Past.behind (ap pass_answer_of (sym c.in-Past.is) ∙ c.past.ensures)
+    past_is _ _ (going_step c.loop-step.invariant.0.passing.going _ _ (sym c.read-got.ensures ∙ ap read_of c.in-Step.is)).row c.in-Past.carried c.in-Past.behind (ap pass_answer_of (sym c.in-Past.is) ∙ c.past.ensures)
 
 pub loop-step-smaller : goal.loop-step-smaller
 loop-step-smaller c = (gone (goal.at.loop-step-smaller c).In-Step).less

@@ -19,10 +19,10 @@ returns-then-out-size c =
 
 pub fold_steps-last-requires : goal.fold_steps-last-requires
 fold_steps-last-requires c =
-    let a = c.args in (
-      foldable (caller_of a.caller) a.run.now a.out.now (sym c.check_with_start.ensures ∙ ap checked_of c.in-Run.is) c.requires,
-      omega (arith, c.left_size-size.ensures, c.if-out-size.false),
-    )
+    let a = c.args in record {
+      foldable = foldable (caller_of a.caller) a.run.now a.out.now (sym c.check_with_start.ensures ∙ ap checked_of c.in-Run.is) c.requires;
+      run_in_bounds = omega (arith, c.left_size-size.ensures, c.if-out-size.false);
+    }
 
 pub returns-in-Refused : goal.returns-in-Refused
 returns-in-Refused c =

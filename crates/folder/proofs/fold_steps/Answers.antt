@@ -58,7 +58,7 @@ slice_bounds-write_left-count-in-loop-step c = c.loop-step.invariant.inside
 pub write_left-count-requires : goal.write_left-count-requires
 write_left-count-requires c =
     let g = gone (goal.at.write_left-count-requires c).In-Step in
-    (g.row, left_room c.loop-step.invariant g)
+    record { step_value = g.row; field_in_bounds = left_room c.loop-step.invariant g }
 
 pub overflow_add-to : goal.overflow_add-to
 overflow_add-to c =
@@ -99,7 +99,7 @@ done : (c : After-slice_known-3-1) → let R = run_in (caller_of c.args.caller) 
     (active_of c.loop-step.held ≡ folded_end (pauli.identity R.width) R.steps)
     × (put_back c.loop-step.out c.loop-step.to c.copy.new.to ≡ left ++ drop (length left) c.args.out.now)
 done c =
-    let end = all_written c.loop-step.invariant (ended c.before.before.before.before.before) _ _ c.copy.ensures.1 refl in
+    let end = all_written c.loop-step.invariant (none_left c.loop-step.invariant.going.left c.read-got.result c.read-got.ensures (opened c.in_default.in_default-own.keys2)) _ _ c.copy.ensures.1 refl in
     let tail = copied_tail _ _ _ c.requires.foldable c.args.out.now _ _ refl c.copy-to.ensures.1 in
     (end.0, end.1 ∙ ap (λ l. folded_run (run_in (caller_of c.args.caller) c.args.run.now) c.args.run.now ++ l) tail)
 
@@ -109,4 +109,4 @@ shape_of-out c =
     ap length (done c).1 ∙ all_long (folded_run (run_in (caller_of c.args.caller) run) run) c.args.out.now c.requires.run_in_bounds
 
 pub returns : goal.returns
-returns c = done c
+returns c = record { result_value = (done c).0; out_after = (done c).1 }

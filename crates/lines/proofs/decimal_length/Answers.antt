@@ -8,4 +8,4 @@ use Rattle.lines.proofs.decimal_length.Goals as goal
 pub returns : goal.returns
 returns c =
     let d = c.decimal in
-    d.ensures.in_bounds.1 ∙ ap length (d.ensures.1.1 ∙ decimal_digits d.result c.args.n d.ensures.len)
+    d.ensures.in_bounds.1 ∙ ap length (d.ensures.digits ∙ decimal_digits d.result c.args.n d.ensures.len)

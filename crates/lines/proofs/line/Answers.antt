@@ -22,7 +22,7 @@ overflow_add-len-2 c =
 pub returns-then-out-len : goal.returns-then-out-len
 returns-then-out-len c =
     let d = c.decimal-count in
-    let q = d.ensures.1.1 ∙ decimal_digits d.result c.args.n d.ensures.len in
+    let q = d.ensures.digits ∙ decimal_digits d.result c.args.n d.ensures.len in
     number_short c.args.label.now (decimal c.args.n) c.args.tail.now c.args.out.now d.result (d.ensures.in_bounds.1 ∙ ap length q) c.if-out-len.true
 
 pub returns : goal.returns
@@ -32,7 +32,7 @@ returns c =
     let second = c.put-rest in
     let third = c.put in
     let x : List ℕ = first.new.out in
-    let q : take d.result d.new.out ≡ decimal c.args.n = d.ensures.1.1 ∙ decimal_digits d.result c.args.n d.ensures.len in
+    let q : take d.result d.new.out ≡ decimal c.args.n = d.ensures.digits ∙ decimal_digits d.result c.args.n d.ensures.len in
     let long = c.if-out-len.false in
     number_all c.args.label.now (decimal c.args.n) c.args.tail.now c.args.out.now d.result (d.ensures.in_bounds.1 ∙ ap length q)
     first.result second.result x second.new.out third.new.out

@@ -1,7 +1,10 @@
 // Reads one run from standard input, and writes its listing to standard output.
 #![tactic(auto)]
-use libc::{STDIN_FILENO, STDOUT_FILENO};
 use paulitext::TextAnswer;
+
+// The C library's numbers of standard input and output.
+const STDIN_FILENO: i32 = 0;
+const STDOUT_FILENO: i32 = 1;
 
 fn main() {
     // One byte more than a run may have, so that a longer one is seen.

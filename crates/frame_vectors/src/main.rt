@@ -8,8 +8,11 @@ mod name;
 mod write;
 
 use kernel_calls::read;
-use libc::{STDIN_FILENO, STDOUT_FILENO};
 use pauli_calls::show;
+
+// The C library's numbers of standard input and output.
+const STDIN_FILENO: i32 = 0;
+const STDOUT_FILENO: i32 = 1;
 
 fn main() {
     let mut input = kernel_calls::buffer();

@@ -2,12 +2,14 @@
 use activepauli::ActivePauli;
 use framelog::{JudgeAnswer, LogAnswer};
 use kernel_calls::write;
-use libc::STDOUT_FILENO;
 use pauli_calls::show;
 use paulitext::TextAnswer;
 use reporter::{FindAnswer, Report, ReportAnswer};
 use run_text::line;
 use steps::Step;
+
+// The C library's number of standard output.
+const STDOUT_FILENO: i32 = 1;
 
 fn word(name: &[u8]) {
     io::write_all(STDOUT_FILENO, name);

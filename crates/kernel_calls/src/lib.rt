@@ -8,8 +8,10 @@ pub mod write;
 
 ghost use Rattle.std.specs.Prelude.{◌≡◌, length};
 
-use libc::STDOUT_FILENO;
 use pauli_calls::show;
+
+// The C library's number of standard output.
+const STDOUT_FILENO: i32 = 1;
 
 // Zeros, for the lines of a test.
 pub fn buffer() -> [u8; 1048576]

@@ -5,10 +5,12 @@ use kernels::{
     ActionAnswer, ActivePauliAction, MeasurementKernelAnswer,
     PrecomputedActivePauliMeasurementKernel, RotationKernelAnswer,
 };
-use libc::STDOUT_FILENO;
 use measurement::ProbabilityAnswer;
 use pauli_calls::show;
 use rows::StepAnswer;
+
+// The C library's number of standard output.
+const STDOUT_FILENO: i32 = 1;
 
 pub(crate) fn done() {
     io::write_all(STDOUT_FILENO, b"done");

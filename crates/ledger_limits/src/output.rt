@@ -1,7 +1,9 @@
 // What is printed: a heading for each ledger, and an answer and three counts for each call.
 use ledger::Ledger;
-use libc::STDOUT_FILENO;
 use runner::RunAnswer;
+
+// The C library's number of standard output.
+const STDOUT_FILENO: i32 = 1;
 
 // A space and a number.
 fn number(n: u64) {

@@ -1,8 +1,10 @@
 // Every open call of lines and of listing at its limits. Each is lent a buffer of dots; the answer is written
 // on a line, and then the whole buffer. The file stdout beside this folder was derived by hand from the scope.
 #![tactic(auto)]
-use libc::STDOUT_FILENO;
 use paulitext::TextAnswer;
+
+// The C library's number of standard output.
+const STDOUT_FILENO: i32 = 1;
 
 fn main() {
     widths();

@@ -1,10 +1,12 @@
 // The calls, by what they are asked on.
 use crate::{form, show};
 use bits::Opened;
-use libc::STDOUT_FILENO;
 use pauligroup::PhaseAnswer;
 use paulis::{LetterAnswer, Pauli, PauliString, SupportAnswer};
 use paulitext::{Reading, TextAnswer};
+
+// The C library's number of standard output.
+const STDOUT_FILENO: i32 = 1;
 
 pub(crate) fn text(text: &[u8]) {
     let answer = paulitext::pauli_string(text);

@@ -5,7 +5,9 @@ mod ask;
 pub mod form;
 pub mod show;
 
-use libc::STDOUT_FILENO;
+// The C library's number of standard output.
+const STDOUT_FILENO: i32 = 1;
+
 
 // The first byte of a line names the call; what follows are its arguments.
 fn answer(line: &[u8]) {

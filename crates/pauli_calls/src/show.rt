@@ -1,6 +1,8 @@
 // What is written of an answer: numbers in decimal, words as they are read.
-use libc::STDOUT_FILENO;
 use paulis::{BitAnswer, Outcome, PauliAnswer, PauliString};
+
+// The C library's number of standard output.
+const STDOUT_FILENO: i32 = 1;
 
 pub fn byte(b: u8) {
     io::write_all(STDOUT_FILENO, &[b]);

@@ -5,9 +5,11 @@
 mod line;
 mod output;
 
-use libc::STDIN_FILENO;
 use paulis::Outcome;
 use paulitext::{ReadAnswer, Reading};
+
+// The C library's number of standard input.
+const STDIN_FILENO: i32 = 0;
 
 // The product of two texts, or what refused: the left text, then the right one, then the product.
 fn product(left: &[u8], right: &[u8]) -> ReadAnswer {

@@ -1,7 +1,9 @@
 // What is written of a line.
-use libc::STDOUT_FILENO;
 use paulis::PauliString;
 use paulitext::TextAnswer;
+
+// The C library's number of standard output.
+const STDOUT_FILENO: i32 = 1;
 
 pub(crate) fn pauli(pauli: PauliString) {
     // The longest text is `-i*` and 256 letters.

@@ -4,7 +4,9 @@
 #![tactic(auto)]
 ghost use Rattle.std.specs.Prelude.{◌≡◌, length};
 
-use libc::STDIN_FILENO;
+// The C library's number of standard input.
+const STDIN_FILENO: i32 = 0;
+
 
 fn buffer() -> [u8; 393216]
     ensures { 393216 ≡ length result }

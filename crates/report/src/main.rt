@@ -1,8 +1,11 @@
 // Reads a line with a Pauli and perhaps a step's number, and behind it a run, from standard input, and writes the report on
 // what carrying the Pauli does to the run's steps to standard output.
 #![tactic(auto)]
-use libc::{STDIN_FILENO, STDOUT_FILENO};
 use paulitext::TextAnswer;
+
+// The C library's numbers of standard input and output.
+const STDIN_FILENO: i32 = 0;
+const STDOUT_FILENO: i32 = 1;
 
 fn main() {
     // A line of 65,534 bytes and its newline, and one byte more than a run may have, so that a longer one is seen.

@@ -6,12 +6,14 @@ use carrier::CarryAnswer;
 use checker::CheckAnswer;
 use fields::{FieldAnswer, StartAnswer};
 use kernel_calls::write;
-use libc::STDOUT_FILENO;
 use passing::PassAnswer;
 use pauli_calls::show;
 use run_text::line;
 use runner::RunAnswer;
 use steps::{Cursor, Read, Step};
+
+// The C library's number of standard output.
+const STDOUT_FILENO: i32 = 1;
 
 fn word(name: &[u8]) {
     io::write_all(STDOUT_FILENO, name);

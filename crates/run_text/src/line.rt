@@ -1,7 +1,9 @@
 // Refusals with a place, and texts and bytes that may be long.
 use kernel_calls::write;
-use libc::STDOUT_FILENO;
 use pauli_calls::show;
+
+// The C library's number of standard output.
+const STDOUT_FILENO: i32 = 1;
 
 pub fn refused_at(row: u8, at: usize) {
     show::refused(row);

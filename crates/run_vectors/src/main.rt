@@ -4,7 +4,9 @@
 // both sides' amplitudes; then two Paulis in turn and as one; then starts for ends; then runs without corrections; then
 // both listings of E6.
 #![tactic(auto)]
-use libc::STDIN_FILENO;
+
+// The C library's number of standard input.
+const STDIN_FILENO: i32 = 0;
 
 fn main() {
     let mut input = kernel_calls::buffer();

@@ -1,0 +1,7 @@
+use Rattle.run_exports.specs.Reading.{read_seen}
+use mathlib.Core.Path.{ap, ◌∙◌}
+use borrow.Author.Rules.{rules}
+use Rattle.run_exports.proofs.naribhush_read.Goals as goal
+
+pub returns : goal.returns
+returns c = c.read-2.ensures ∙ ap read_seen c.read.ensures

@@ -8,6 +8,7 @@
 // The floating-point mode is the process's, and no proof sees it. A program that is linked with -ffast-math, or that
 // sets flush-to-zero itself, has subnormal numbers made zeros here too; another rounding mode changes last bits.
 #![tactic(auto)]
+
 mod own;
 pub mod seen;
 
@@ -48,76 +49,62 @@ use seen::{
 };
 use verdicts::{SeenBit, Verdict};
 
-#[unsafe(no_mangle)]
-pub extern "C" fn naribhush_active_mul(lhs: ActivePauli, rhs: ActivePauli) -> SeenActivePauli
+pub fn naribhush_active_mul(lhs: ActivePauli, rhs: ActivePauli) -> SeenActivePauli
     ensures { Seen result.verdict (active_of result.pauli) (book.identity 0) (product_call (active_of lhs) (active_of rhs)) }
 {
     seen::pauli(lhs.mul(rhs))
 }
 
-#[unsafe(no_mangle)]
-pub extern "C" fn naribhush_active_anticommutes(a: ActivePauli, b: ActivePauli) -> SeenBit
+pub fn naribhush_active_anticommutes(a: ActivePauli, b: ActivePauli) -> SeenBit
     ensures { Seen result.verdict result.bit false (anticommutes_call (active_of a) (active_of b)) }
 {
     seen::bit(a.anticommutes(b))
 }
 
-#[unsafe(no_mangle)]
-pub extern "C" fn naribhush_active_is_hermitian(pauli: ActivePauli) -> SeenBit
+pub fn naribhush_active_is_hermitian(pauli: ActivePauli) -> SeenBit
     ensures { Seen result.verdict result.bit false (squares_call (active_of pauli)) }
 {
     seen::bit(pauli.is_hermitian())
 }
 
-#[unsafe(no_mangle)]
-pub extern "C" fn naribhush_active_raised(pauli: ActivePauli, exponent: u8) -> SeenActivePauli
+pub fn naribhush_active_raised(pauli: ActivePauli, exponent: u8) -> SeenActivePauli
     ensures { Seen result.verdict (active_of result.pauli) (book.identity 0) (raised_call (active_of pauli) exponent) }
 {
     seen::pauli(pauli.raised(exponent))
 }
 
-#[unsafe(no_mangle)]
-pub extern "C" fn naribhush_active_dropped(pauli: ActivePauli, q: usize) -> SeenActivePauli
+pub fn naribhush_active_dropped(pauli: ActivePauli, q: usize) -> SeenActivePauli
     ensures { Seen result.verdict (active_of result.pauli) (book.identity 0) (dropped_call (active_of pauli) q) }
 {
     seen::pauli(pauli.dropped(q))
 }
 
-#[unsafe(no_mangle)]
-pub extern "C" fn naribhush_active_x_bit(pauli: ActivePauli, q: usize) -> SeenBit
+pub fn naribhush_active_x_bit(pauli: ActivePauli, q: usize) -> SeenBit
     ensures { Seen result.verdict result.bit false (bit_call (active_of pauli) pauli.x q) }
 {
     seen::bit(pauli.x_bit(q))
 }
 
-#[unsafe(no_mangle)]
-pub extern "C" fn naribhush_active_z_bit(pauli: ActivePauli, q: usize) -> SeenBit
+pub fn naribhush_active_z_bit(pauli: ActivePauli, q: usize) -> SeenBit
     ensures { Seen result.verdict result.bit false (bit_call (active_of pauli) pauli.z q) }
 {
     seen::bit(pauli.z_bit(q))
 }
 
-#[unsafe(no_mangle)]
-pub extern "C" fn naribhush_phase_factor(phase: u8) -> Complex64
+pub fn naribhush_phase_factor(phase: u8) -> Complex64
     ensures { complex_of result ≡ formula.power binary (phase % 4) }
 {
     complex::phase_factor(phase)
 }
 
-#[unsafe(no_mangle)]
-pub extern "C" fn naribhush_action(pauli: PauliString) -> SeenAction
+pub fn naribhush_action(pauli: PauliString) -> SeenAction
     ensures { let P = pauli_of pauli in
         Seen result.verdict (action_of result.action) no_action (answered (action_row P) (pauli_action P)) }
 {
     seen::action(ActivePauliAction::new(pauli))
 }
 
-#[unsafe(no_mangle)]
-pub extern "C" fn naribhush_rotation_kernel(
-    pauli: ActivePauli,
-    c: f64,
-    s: f64,
-) -> SeenRotationKernel
+pub fn naribhush_rotation_kernel(pauli: ActivePauli, c: f64, s: f64) -> SeenRotationKernel
     ensures { let P = active_of pauli in
         let made = answered (rotation_kernel_row P c s) (rotation_kernel P c s) in
         Seen result.verdict (rotation_kernel_of result.kernel) no_rotation made }
@@ -125,8 +112,7 @@ pub extern "C" fn naribhush_rotation_kernel(
     seen::rotation(PrecomputedActivePauliRotationKernel::new(pauli, c, s))
 }
 
-#[unsafe(no_mangle)]
-pub extern "C" fn naribhush_from_pauli(pauli: ActivePauli) -> SeenMeasurementKernel
+pub fn naribhush_from_pauli(pauli: ActivePauli) -> SeenMeasurementKernel
     ensures { let M = active_of pauli in
         let p = default_pivot M in
         let made = answered (measurement_row M p false) (measurement_kernel M p) in
@@ -135,8 +121,7 @@ pub extern "C" fn naribhush_from_pauli(pauli: ActivePauli) -> SeenMeasurementKer
     seen::measurement(PrecomputedActivePauliMeasurementKernel::from_pauli(pauli))
 }
 
-#[unsafe(no_mangle)]
-pub extern "C" fn naribhush_with_pivot(pauli: ActivePauli, pivot: usize) -> SeenMeasurementKernel
+pub fn naribhush_with_pivot(pauli: ActivePauli, pivot: usize) -> SeenMeasurementKernel
     ensures { let M = active_of pauli in
         let made = answered (measurement_row M pivot false) (measurement_kernel M pivot) in
         Seen result.verdict (measurement_kernel_of result.kernel) no_measurement made }
@@ -145,8 +130,7 @@ pub extern "C" fn naribhush_with_pivot(pauli: ActivePauli, pivot: usize) -> Seen
 }
 
 // The sign is 0 or 1; over 1 it is refused by 14.
-#[unsafe(no_mangle)]
-pub extern "C" fn naribhush_rotate(
+pub fn naribhush_rotate(
     re: &mut [f64],
     im: &mut [f64],
     pauli: ActivePauli,
@@ -167,14 +151,7 @@ pub extern "C" fn naribhush_rotate(
     seen::step(rotation::rotate_contiguous_active(re, im, pauli, sign == 1, c, s))
 }
 
-#[unsafe(no_mangle)]
-pub extern "C" fn naribhush_promote(
-    re: &mut [f64],
-    im: &mut [f64],
-    nqubits: usize,
-    c: f64,
-    q: f64,
-) -> Verdict
+pub fn naribhush_promote(re: &mut [f64], im: &mut [f64], nqubits: usize, c: f64, q: f64) -> Verdict
     ensures { let S = state_of re.old im.old in
         let did = promoting nqubits c q S in
         (result ≡ verdict_of did.answer) × (state_of re.new im.new ≡ did.lent) }
@@ -183,8 +160,7 @@ pub extern "C" fn naribhush_promote(
 }
 
 // The branch is 0 or 1; over 1 it is refused by 14.
-#[unsafe(no_mangle)]
-pub extern "C" fn naribhush_probability(
+pub fn naribhush_probability(
     re: &[f64],
     im: &[f64],
     pauli: ActivePauli,
@@ -204,8 +180,7 @@ pub extern "C" fn naribhush_probability(
 }
 
 // The branch is 0 or 1; over 1 it is refused by 14.
-#[unsafe(no_mangle)]
-pub extern "C" fn naribhush_project(
+pub fn naribhush_project(
     re: &mut [f64],
     im: &mut [f64],
     scratch_re: &mut [f64],
@@ -238,8 +213,7 @@ pub extern "C" fn naribhush_project(
     ))
 }
 
-#[unsafe(no_mangle)]
-pub extern "C" fn naribhush_correct(re: &mut [f64], im: &mut [f64], pauli: ActivePauli) -> Verdict
+pub fn naribhush_correct(re: &mut [f64], im: &mut [f64], pauli: ActivePauli) -> Verdict
     ensures { let S = state_of re.old im.old in
         let did = correcting (active_of pauli) S in
         (result ≡ verdict_of did.answer) × (state_of re.new im.new ≡ did.lent) }

@@ -2,6 +2,7 @@
 // one, and its whole answer is written as a line, with every lent buffer as it is after the call. The
 // calls are listed in read::call; `#` is a comment.
 #![tactic(auto)]
+
 mod ask;
 pub mod read;
 pub mod write;

@@ -2,6 +2,7 @@
 // from ledgers with counts at 0 and at 2^64 - 1, and after each its answer and the three counts are printed. The
 // file stdout beside this folder was derived by hand from the scope and change request E8.
 #![tactic(auto)]
+
 mod output;
 
 use ledger::Ledger;

@@ -1,13 +1,13 @@
 // Calls of bits, paulis, pauligroup and paulitext in text: each line asks one, and its whole answer is
 // written as a line. The operations are listed in form::arity; `p` reads a text, `#` is a comment.
 #![tactic(auto)]
+
 mod ask;
 pub mod form;
 pub mod show;
 
 // The C library's number of standard output.
 const STDOUT_FILENO: i32 = 1;
-
 
 // The first byte of a line names the call; what follows are its arguments.
 fn answer(line: &[u8]) {

@@ -2,6 +2,7 @@
 // text of their product is written, or `refused` with the number of the first refusal on the way and
 // the index of the byte where the refusal has one. At most 65,536 bytes are read.
 #![tactic(auto)]
+
 mod line;
 mod output;
 

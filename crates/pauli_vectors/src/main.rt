@@ -2,11 +2,11 @@
 // each call at its limits, with answers derived by hand; then calls that were asked of the Rust, with what it answered. At most
 // 393,216 bytes are read.
 #![tactic(auto)]
+
 ghost use Rattle.std.specs.Prelude.{◌≡◌, length};
 
 // The C library's number of standard input.
 const STDIN_FILENO: i32 = 0;
-
 
 fn buffer() -> [u8; 393216]
     ensures { 393216 ≡ length result }

@@ -1,6 +1,7 @@
 // Runs in text, and what is written on one line of an answer: for the programs that ask calls on runs. A run is
 // hexadecimal digits in pieces, commas between; `3*` before a piece stands for three of it.
 #![tactic(auto)]
+
 pub mod line;
 
 ghost use Rattle.std.specs.Prelude.{◌≡◌, length};

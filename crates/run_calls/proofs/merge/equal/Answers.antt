@@ -7,8 +7,7 @@ use borrow.Author.Tests.{eqb-true, eq-eqb}
 use Rattle.paulilaws.specs.Pauli.{Pauli, same}
 use Rattle.paulilaws.specs.Fitting.{both_left, both_right}
 use Rattle.activepauli.specs.Active.{active_of}
-use Rattle.run_calls.proofs.merge.equal.Statement.{statement}
-use Rattle.run_calls.proofs.merge.equal.Tie as tie
+use Rattle.run_calls.proofs.merge.equal.Goals as goal
 
 parts : (A B : Pauli) → ((eqb A.n B.n && eqb A.k B.k && eqb A.x B.x && eqb A.z B.z) ≡ true) ↔ (A ≡ B)
 parts A B =
@@ -30,10 +29,7 @@ parts A B =
           ),
     )
 
-returns : tie.Need-returns
+pub returns : goal.returns
 returns c =
-    let a = c.before.before.before.before.before.before.before.before.args in
+    let a = c.args in
     parts (active_of a.a) (active_of a.b)
-
-pub equal-spec : {M : Type 1} → statement M
-equal-spec = tie.close (tie.spec returns)

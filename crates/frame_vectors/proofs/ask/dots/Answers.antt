@@ -2,11 +2,7 @@
 use Prim.Native.Nat.{ℕ}
 use mathlib.Core.Path.{sym}
 use lib.ListN.{length-replicate}
-use Rattle.frame_vectors.proofs.ask.dots.Statement.{statement}
-use Rattle.frame_vectors.proofs.ask.dots.Tie as tie
+use Rattle.frame_vectors.proofs.ask.dots.Goals as goal
 
-returns : tie.Need-returns
+pub returns : goal.returns
 returns c = sym (length-replicate {A = ℕ} 262144 46)
-
-pub dots-spec : {M : Type 1} → statement M
-dots-spec = tie.close (tie.spec returns)

@@ -4,6 +4,7 @@
 //
 // The promises are the first layer's own definitions: what `product` or `anti` means there, it means here.
 #![tactic(auto)]
+
 ghost use Rattle.std.specs.Prelude.{◌≡◌, ◌<◌};
 ghost use Rattle.bitlaws.specs.Opening.{drop_bit};
 ghost use Rattle.bitlaws.specs.Parity.{overlap};

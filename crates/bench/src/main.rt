@@ -1,9 +1,11 @@
 // Reads one run from standard input, and writes its listing to standard output.
 #![tactic(auto)]
+
 use paulitext::TextAnswer;
 
 // The C library's numbers of standard input and output.
 const STDIN_FILENO: i32 = 0;
+
 const STDOUT_FILENO: i32 = 1;
 
 fn main() {

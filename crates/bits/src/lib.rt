@@ -1,6 +1,7 @@
 // Bits of one word (bits.rs, and insert_zero_bit of active.rs): the parity of a word, its highest bit, and
 // a zero bit opened in a basis index.
 #![tactic(auto)]
+
 ghost use Rattle.std.specs.Prelude.{◌≡◌, eqb, ◌+◌, ◌%◌};
 ghost use Rattle.bitlaws.specs.Digit.{bit_of, digit};
 ghost use Rattle.bitlaws.specs.Highest.{highest};

@@ -1,6 +1,7 @@
 // Who calls for a run: how wide its states may be, and by which rows of the table a wider one is refused. A caller
 // is one of two, so that no other rows can be asked for.
 #![tactic(auto)]
+
 ghost use Rattle.std.specs.Prelude.{◌≡◌};
 ghost use Rattle.framelaws.specs.Caller as frame;
 ghost use Rattle.callers.specs.Meaning.{caller_of};

@@ -2,6 +2,7 @@
 // is written to a lent output with its signs and branches altered to suit, and the Pauli that is left at the
 // end is answered.
 #![tactic(auto)]
+
 ghost use Rattle.std.specs.Prelude.{◌≡◌};
 ghost use Rattle.activepauli.specs.Active.{active_of};
 ghost use Rattle.framelaws.specs.Caller.{service, emulator};

@@ -3,6 +3,7 @@
 // amplitudes the largest state has that a projection with an X part leaves; or the first refusal, in
 // file order, with its place.
 #![tactic(auto)]
+
 ghost use Rattle.std.specs.Prelude.{◌≡◌, ◌≤◌, max, length};
 ghost use Rattle.framelaws.specs.Caller.{service, service_within, emulator};
 ghost use Rattle.framelaws.specs.Survey.{survey, mixed_amplitudes};

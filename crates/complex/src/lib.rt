@@ -1,6 +1,7 @@
 // Pairs of floats: the coefficients m and w of the kernels, and the amplitudes. Each operation is
 // rounded by itself, in the order of the formulas; nothing is fused.
 #![tactic(auto)]
+
 ghost use Rattle.std.specs.Prelude.{◌≡◌, ◌%◌};
 ghost use Rattle.bitlaws.specs.Digit.{bit_of};
 ghost use Rattle.amplitudelaws.specs.Arithmetic as formula;

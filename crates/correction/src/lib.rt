@@ -1,6 +1,7 @@
 // A Pauli fired as a pulse: the amplitude at b moves to b xor x, times a power of i, in place over the
 // first 2^n amplitudes. What lies past them is kept.
 #![tactic(auto)]
+
 mod moves;
 
 ghost use Rattle.amplitudelaws.specs.State.{state_of};

@@ -1,6 +1,7 @@
 // Fields of a run. A field is one byte of tag, two bytes of the body's length, the body, little-endian.
 // Each call answers for any bytes and any place.
 #![tactic(auto)]
+
 pub mod number;
 
 ghost use Rattle.std.specs.Prelude.{◌≡◌};

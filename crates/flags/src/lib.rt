@@ -1,5 +1,6 @@
 // The sign or branch of a step, as the byte of its field that it is.
 #![tactic(auto)]
+
 ghost use Rattle.std.specs.Prelude.{◌≡◌, ◌+◌, set};
 ghost use Rattle.runlaws.specs.Flags.{flag_at};
 ghost use Rattle.steps.specs.Meaning.{step_of};

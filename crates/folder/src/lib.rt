@@ -3,6 +3,7 @@
 // other, and the Pauli at the end is answered: fired behind them it gives what the run gives (runlaws WithoutCorrections
 // says when).
 #![tactic(auto)]
+
 mod past;
 
 ghost use Rattle.std.specs.Prelude.{◌≡◌, ◌++◌, ◌≤◌, length, drop};

@@ -1,6 +1,7 @@
 // The formulas of contiguous.rs's scalar loops on one amplitude: what a rotation makes of it, the square that a
 // branch's probability adds for it, and the clamp of that sum. Each operation is rounded by itself.
 #![tactic(auto)]
+
 ghost use Rattle.std.specs.Prelude.{◌≡◌};
 ghost use Rattle.amplitudelaws.specs.Binary as float;
 ghost use Rattle.amplitudelaws.specs.Probability as sums;

@@ -2,6 +2,7 @@
 // them; the file stdout beside this folder has the answers that vectors/frames.py gives, and vectors/reports.py and
 // vectors/logs.py say what a line asks.
 #![tactic(auto)]
+
 mod ask;
 mod logs;
 mod name;
@@ -12,6 +13,7 @@ use pauli_calls::show;
 
 // The C library's numbers of standard input and output.
 const STDIN_FILENO: i32 = 0;
+
 const STDOUT_FILENO: i32 = 1;
 
 fn main() {

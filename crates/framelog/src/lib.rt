@@ -2,6 +2,7 @@
 // used, and then the 17 bytes of the Pauli that it ends in. The right one is what carrying gives; whatever log a chip
 // hands over is judged by it, byte for byte.
 #![tactic(auto)]
+
 mod pauli_bytes;
 mod walk;
 

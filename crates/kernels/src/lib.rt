@@ -4,6 +4,7 @@
 // `basis`. A basis index fits a machine word, so an action has at most 62 qubits and a kernel 61. The
 // kernels are of a fixed size: coefficients for each basis are derived from the masks as a call runs.
 #![tactic(auto)]
+
 ghost use Rattle.std.specs.Prelude.{◌≡◌, false, ◌<◌, ◌≤◌, ◌^◌};
 ghost use Rattle.answers.specs.Row.{answered};
 ghost use Rattle.paulis.specs.Strings.{pauli_of};

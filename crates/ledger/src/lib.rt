@@ -1,6 +1,7 @@
 // The service's ledger: runs offered, finished and refused, in 64 bits, each going round to 0 after
 // 2^64 - 1. Only running is offered to it; checking and carrying are not. It counts none of the emulator's runs.
 #![tactic(auto)]
+
 ghost use Rattle.amplitudelaws.specs.Memory.{memory_of};
 ghost use Rattle.std.specs.Prelude.{◌≡◌};
 ghost use Rattle.framelaws.specs.Caller.{service, emulator};

@@ -1,6 +1,7 @@
 // The lines that `bench` prints, each written to the start of a lent buffer: the answer is its length,
 // or the refusal 16 where the buffer is too short, which is then left as it was.
 #![tactic(auto)]
+
 ghost use Rattle.std.specs.Prelude.{◌≡◌, ◌++◌, ◌+◌, ◌≤◌, length};
 ghost use Rattle.std.proofs.lemmas.List.Edits.{sets};
 ghost use Rattle.lines.specs.Calls.{Lined};

@@ -1,6 +1,7 @@
 // The whole listing of a run: `qubits` and the last width, then each basis with its amplitude, or `refused`
 // and the number. The lines are those of the crate `lines`.
 #![tactic(auto)]
+
 ghost use Rattle.std.specs.Prelude.{◌≡◌, ◌+◌, ◌^◌, ◌≤◌, length};
 ghost use Rattle.std.proofs.lemmas.List.Edits.{sets};
 ghost use Rattle.amplitudelaws.specs.State.{State, state_of};

@@ -1,6 +1,7 @@
 // Every open call of lines and of listing at its limits. Each is lent a buffer of dots; the answer is written
 // on a line, and then the whole buffer. The file stdout beside this folder was derived by hand from the scope.
 #![tactic(auto)]
+
 use paulitext::TextAnswer;
 
 // The C library's number of standard output.

@@ -1,5 +1,6 @@
 // Packed-bit addressing (bits.rs): masks of 256 bits in four words, bit q at bit q % 64 of word q / 64.
 #![tactic(auto)]
+
 ghost use Rattle.std.specs.Prelude.{◌≡◌, ◌-◌, ◌<◌, ◌≤◌, ◌^◌, eqb, ltb};
 ghost use Rattle.std.specs.Int.Bits.{bit_and, bit_xor};
 ghost use Rattle.std.specs.Int.Count.{ones};

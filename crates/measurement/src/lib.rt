@@ -2,6 +2,7 @@
 // loops): 2^n amplitudes become the low 2^(n-1), output index j being the basis without the pivot's bit.
 // Upper halves and what lies past the state are kept.
 #![tactic(auto)]
+
 mod amplitude;
 mod diagonal;
 mod mixing;

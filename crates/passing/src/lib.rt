@@ -1,6 +1,7 @@
 // A Pauli taken past one step, as carrying takes it past each step of a run. The call answers for any Pauli
 // and any step: where the two do not suit each other it is refused.
 #![tactic(auto)]
+
 mod row;
 mod suited;
 

@@ -5,6 +5,7 @@
 // comes in as a number, since a byte that is handed over for a bool may be any: over 1 it is refused by 14, behind
 // the call's own rows.
 #![tactic(auto)]
+
 pub mod seen;
 
 ghost use Rattle.std.specs.Prelude.{◌≡◌, false, eqb};

@@ -1,6 +1,7 @@
 // The Pauli group (pauli.rs): product, anticommutation, coefficient, Hermitian test and sign. Each
 // call looks at its Paulis first and refuses by 3 what is none; then by 4 or 7 of the scope's table.
 #![tactic(auto)]
+
 mod algebra;
 
 ghost use Rattle.std.specs.Prelude.{◌≡◌};

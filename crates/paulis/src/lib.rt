@@ -4,6 +4,7 @@
 // and a Y is stored as x = 1, z = 1 with one more in the phase. The fields are public, so each call
 // looks at its Pauli first and refuses by 3 what is none; then by 5 of the scope's table.
 #![tactic(auto)]
+
 mod letter;
 mod support;
 

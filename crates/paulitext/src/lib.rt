@@ -1,5 +1,6 @@
 // Pauli strings as text (pauli_string and Display of pauli.rs). Place in the text is the qubit.
 #![tactic(auto)]
+
 mod answer;
 mod byte;
 

@@ -1,6 +1,7 @@
 // A qubit promoted out of the dormant set (contiguous.rs): alpha' = [c alpha, +i q alpha], the new qubit
 // being the highest. The comment over the Rust has -i q; its code multiplies by +i q, as here.
 #![tactic(auto)]
+
 mod halves;
 
 ghost use Rattle.amplitudelaws.specs.State.{state_of};

@@ -1,5 +1,6 @@
 // Steps of a run, read by the field at a cursor. A read answers for any bytes and any cursor, whoever calls.
 #![tactic(auto)]
+
 mod bodies;
 mod number;
 

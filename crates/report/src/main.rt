@@ -1,10 +1,12 @@
 // Reads a line with a Pauli and perhaps a step's number, and behind it a run, from standard input, and writes the report on
 // what carrying the Pauli does to the run's steps to standard output.
 #![tactic(auto)]
+
 use paulitext::TextAnswer;
 
 // The C library's numbers of standard input and output.
 const STDIN_FILENO: i32 = 0;
+
 const STDOUT_FILENO: i32 = 1;
 
 fn main() {

@@ -1,6 +1,7 @@
 // Reporting: why a step's sign or branch is what it is in the carried run. The frame before a step is the Pauli carried so
 // far; the flag is changed where that Pauli and the step's own anticommute, and the qubits on which they do are its cause.
 #![tactic(auto)]
+
 mod walk;
 
 ghost use Rattle.std.specs.Prelude.{◌≡◌};

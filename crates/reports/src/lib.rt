@@ -1,6 +1,7 @@
 // What is listed for a person of a run that carries a Pauli, each text written to the start of a lent buffer: the answer is
 // its length, or the refusal 16 where the buffer is too short, which is then left as it was.
 #![tactic(auto)]
+
 mod input;
 mod line;
 mod pieces;

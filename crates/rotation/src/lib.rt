@@ -1,6 +1,7 @@
 // Rotation of a state (contiguous.rs, the scalar loops): alpha <- (c - i s P) alpha over the first 2^n
 // amplitudes, in place. What lies past them is kept.
 #![tactic(auto)]
+
 use activepauli::ActivePauli;
 use kernels::{PrecomputedActivePauliRotationKernel, RotationKernelAnswer};
 use rows::StepAnswer;

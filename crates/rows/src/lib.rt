@@ -2,6 +2,7 @@
 // none does. Each function here answers for any arguments, so that a call can ask for all its rows and
 // take the first. And what such a call answers.
 #![tactic(auto)]
+
 ghost use Rattle.std.specs.Prelude.{◌≡◌, ◌^◌, leb};
 ghost use Rattle.std.specs.Float.Ieee.Scale.{finite};
 ghost use Rattle.answers.specs.Row as table;

@@ -3,6 +3,7 @@
 // call's name, a run (run_text::run), numbers and buffers (kernel_calls::read). The calls are listed in text::arity; `#`
 // is a comment.
 #![tactic(auto)]
+
 mod ask;
 mod both;
 mod fold;

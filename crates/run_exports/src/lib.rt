@@ -5,6 +5,7 @@
 // The floating-point mode is the process's, and no proof sees it. A program that is linked with -ffast-math, or that
 // sets flush-to-zero itself, has subnormal numbers made zeros here too; another rounding mode changes last bits.
 #![tactic(auto)]
+
 pub mod emulated;
 pub mod given;
 pub mod seen;

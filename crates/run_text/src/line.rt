@@ -58,7 +58,7 @@ fn wide(byte: u8) -> u64 {
     byte as u64
 }
 
-fn summed(bytes: &[u8]) {
+pub fn summed(bytes: &[u8]) {
     show::byte(b' ');
     io::print_hex(STDOUT_FILENO, digest(bytes), 16);
 }

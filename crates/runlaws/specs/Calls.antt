@@ -67,7 +67,7 @@ running caller s m = on_run (run_of caller s) m (λ R. by_row (memory_row (surve
 
 -- ---- carrying
 
--- 3: no Pauli, 4: not on the start qubits, 16: an output that is shorter than what is to be written, for carrying the run's length
+-- 3: no Pauli, 4: not on the start qubits, 16: an output that is shorter than the run
 unfoldable pub carrying_row : Pauli → ℕ → ℕ → ℕ → ℕ
 carrying_row Q width size room = first (placed_row Q width) (row (ltb room size) 16 0)
 

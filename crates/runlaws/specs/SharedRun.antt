@@ -29,7 +29,7 @@ use Rattle.runlaws.specs.Fields.{read_decodes, read_within, step_field, end_fiel
 use Rattle.runlaws.specs.Frame.{Agreeing}
 use Rattle.runlaws.specs.Mapped.{mapped_accepted}
 use Rattle.runlaws.specs.Outcomes.{room_both, running_done, running_answers}
-use Rattle.runlaws.specs.TwoCallers.{Shared, Agreed}
+use Rattle.runlaws.specs.TwoCallers.{Shared, Agreed, LogsAgreed}
 use Rattle.runlaws.specs.Walk.{walk_by, walk_step, first_step, last_field}
 use Rattle.runlaws.specs.WholeRun.{run_begun, run_allowed}
 
@@ -98,7 +98,7 @@ module _ (a b : Caller) (s : List ℕ) (m u : Memory) where
         }
 
     agreed_run : Agreed a b s m u
-    unfolding checking_with_start running carrying seeking folding framing finding reporting logging judging
+    unfolding checking_with_start running carrying seeking folding framing finding reporting
     agreed_run = record {
       ending = ends;
       here = (running_answers a s m R one here).0;
@@ -110,9 +110,23 @@ module _ (a b : Caller) (s : List ℕ) (m u : Memory) where
       seeks = λ E. rw (one, two);
       folds = λ out. rw (one, two);
       reports = λ Q i. rw (one, two);
-      logs = λ Q out. rw (one, two);
-      judges = λ Q log. rw (one, two);
     }
+
+    agreed_logs : LogsAgreed a b s
+    unfolding logging judging
+    agreed_logs = record { logs = λ Q out. rw (one, two); judges = λ Q log. rw (one, two) }
+
+  pub shared_logs : Shared a b s m u → LogsAgreed a b s
+  unfolding checking_with_start
+  shared_logs h =
+      let known = mapped_accepted checked_run_of (run_of a s) h.checked h.checks in
+      let R : Run = known.value in
+      let done = running_done a s m _ (accepted_value (running a s m).answer h.here).is in
+      let its : done.run ≡ R = accepted_same (sym done.was ∙ known.was) in
+      let narrow : (survey_of R).greatest ≤ b.widest = subst (λ (C : CheckedRun). C.survey.greatest ≤ b.widest) known.is h.narrow in
+      let room : memory_row (survey_of R) u ≡ 0 = subst (λ (C : CheckedRun). memory_row C.survey u ≡ 0) known.is h.room in
+      let start : Agreeing R.width m.state u.state = subst (λ (C : CheckedRun). Agreeing C.start m.state u.state) known.is h.start in
+      agreed_logs R known.was (run_alike a b s R known.was narrow) (subst (λ (r : Run). memory_row (survey_of r) m ≡ 0) its done.passed) room start
 
   pub shared_agreed : Shared a b s m u → Agreed a b s m u
   unfolding checking_with_start

@@ -14,7 +14,7 @@ use Rattle.framelaws.specs.Reporting.Report.{no_flag, flagged}
 use Rattle.runlaws.specs.Bytes.{byte_at}
 use Rattle.runlaws.specs.Calls.{CheckedRun, Frames, checking_with_start, carrying, framing, finding, reporting}
 use Rattle.runlaws.specs.Pieces.{end_bytes}
-use Rattle.runlaws.specs.StepOf.{StepOf}
+pub use Rattle.runlaws.specs.StepOf.{StepOf}
 
 -- ---- what is reported of step number i, which is at a place in the run's bytes (StepOf)
 

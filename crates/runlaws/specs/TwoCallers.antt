@@ -1,4 +1,4 @@
--- THE TWO CALLERS, as they are said to agree: change request E8, its sentences on the reader and on the state, over the definitions that the calls for reading, checking, running, carrying, seeking, folding, reporting, logging and judging promise to
+-- THE TWO CALLERS, as they are said to agree: change request E8, its sentences on the reader and on the state, over the definitions that the calls for reading, checking, running, carrying, seeking, folding and reporting promise to
 -- the service and to the emulator, and `run_of`, on which they stand. Agreement.antt proves it, for any wide and any narrow caller.
 use Rattle.std.specs.Prelude.{◌≡◌, true, List, ◌⊎◌, ℕ, ◌≤◌, ◌<◌}
 use Rattle.std.proofs.Math.Option.{some}
@@ -30,8 +30,8 @@ pub record Shared (a b : Caller) (s : List ℕ) (m u : Memory) : Type 0 where
   pub start : Agreeing checked.start m.state u.state
 
 -- What comes of it: b accepts the run too and answers the same, and every amplitude is equal in every bit. On one memory running leaves the same in all four buffers,
--- refused by 13 or not; carrying, folding and logging the same, whatever Pauli is carried and whatever output is lent; seeking answers the same, whatever end is named,
--- and reporting and judging, whatever Pauli is carried, whatever step is asked for and whatever log is handed over.
+-- refused by 13 or not; carrying and folding the same, whatever Pauli is carried and whatever output is lent; seeking answers the same, whatever end is named,
+-- and reporting, whatever Pauli is carried and whatever step is asked for.
 pub record Agreed (a b : Caller) (s : List ℕ) (m u : Memory) : Type 0 where
   pub ending : Ending
   pub here : (running a s m).answer ≡ accepted ending
@@ -43,6 +43,9 @@ pub record Agreed (a b : Caller) (s : List ℕ) (m u : Memory) : Type 0 where
   pub seeks : (E : Pauli) → seeking b s E ≡ seeking a s E
   pub folds : (out : List ℕ) → folding b s out ≡ folding a s out
   pub reports : (Q : Pauli) (i : ℕ) → reporting b s Q i ≡ reporting a s Q i
+
+-- And of the log that a chip's frame unit writes: both write the same, whatever Pauli is carried and whatever output is lent, and judge alike whatever log is handed over.
+pub record LogsAgreed (a b : Caller) (s : List ℕ) : Type 0 where
   pub logs : (Q : Pauli) (out : List ℕ) → logging b s Q out ≡ logging a s Q out
   pub judges : (Q : Pauli) (log : List ℕ) → judging b s Q log ≡ judging a s Q log
 

@@ -1,6 +1,7 @@
 // Running: the steps of a run on lent amplitudes, one after the other. The run is checked whole first, so
 // that a refused run leaves all four buffers as they were.
 #![tactic(auto)]
+
 ghost use Rattle.amplitudelaws.specs.Memory.{memory_of};
 ghost use Rattle.std.specs.Prelude.{◌≡◌, ◌&&◌};
 ghost use Rattle.answers.specs.Answer.Answer.{accepted};

@@ -2,6 +2,7 @@
 // start is raised at the end, and the masks at the end are a linear function of those at the start. So each mask of
 // one bit is carried, at most 24 of them, and the masks of the end are sought among the sums of what they become.
 #![tactic(auto)]
+
 mod elimination;
 mod mask_word;
 mod walk;

@@ -1,6 +1,7 @@
 // The steps of a run as they are read: a step carries its Pauli and its floats, a read the step and
 // the cursor behind it, or the refusal with its place. Types, no functions.
 #![tactic(auto)]
+
 pub mod tag;
 
 use activepauli::ActivePauli;

@@ -1,6 +1,7 @@
 // What a caller in another language sees of an answer. An enum does not cross that border, so an exported
 // call answers a struct of numbers, of which a verdict is the first.
 #![tactic(auto)]
+
 ghost use Rattle.std.specs.Prelude.{◌≡◌, false};
 ghost use Rattle.answers.specs.Answer.{Answer};
 ghost use Rattle.verdicts.specs.Flag.{flag_row};

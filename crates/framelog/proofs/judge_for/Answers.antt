@@ -22,7 +22,7 @@ pub is_right-requires : goal.is_right-requires
 is_right-requires c =
     let a = c.args in
     let ready = judge_ready (caller_of a.caller) a.run.now (active_of a.pauli) (sym c.check_with_start.ensures ∙ ap checked_of c.in-Run.is)
-        c.log_size-size.ensures a.log.now c.log_row-row.ensures (omega (arith, c.if-row-ne0.false)) in
+    c.log_size-size.ensures a.log.now c.log_row-row.ensures (omega (arith, c.if-row-ne0.false)) in
     record { on_start = ready.0; log_len = ready.1 }
 
 pub returns-in-Refused : goal.returns-in-Refused

@@ -22,7 +22,7 @@ pub write_log-requires : goal.write_log-requires
 write_log-requires c =
     let a = c.args in
     let ready = log_ready (caller_of a.caller) a.run.now (active_of a.pauli) (sym c.check_with_start.ensures ∙ ap checked_of c.in-Run.is)
-        c.log_size-size.ensures a.out.now c.log_row-row.ensures (omega (arith, c.if-row-ne0.false)) in
+    c.log_size-size.ensures a.out.now c.log_row-row.ensures (omega (arith, c.if-row-ne0.false)) in
     record { on_start = ready.0; pauli_in_bounds = ready.1 }
 
 pub returns-in-Refused : goal.returns-in-Refused

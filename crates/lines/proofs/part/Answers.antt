@@ -34,5 +34,8 @@ returns c =
     let second = c.put in
     let x : List ℕ = first.new.out in
     let count : h.result ≡ 16 = sixteen b.result h.result b.type_inv h.ensures.len in
-    let q : take h.result h.new.out ≡ last_digits 16 16 (listed_bits c.args.x) = h.ensures.digits ∙ ap₂ (λ (k n : ℕ). last_digits 16 k n) count b.ensures in record { value = omega (arith, first.ensures.value, second.ensures.value, h.ensures.in_bounds.1, count); out_after = sets_next c.args.out.now c.args.at first.result (32 ∷ []) (last_digits 16 16 (listed_bits c.args.x)) x second.new.out
-          first.ensures.out_after first.ensures.value (second.ensures.out_after ∙ ap (sets x first.result) q) }
+    let q : take h.result h.new.out ≡ last_digits 16 16 (listed_bits c.args.x) = h.ensures.digits ∙ ap₂ (λ (k n : ℕ). last_digits 16 k n) count b.ensures in record {
+      value = omega (arith, first.ensures.value, second.ensures.value, h.ensures.in_bounds.1, count);
+      out_after = sets_next c.args.out.now c.args.at first.result (32 ∷ []) (last_digits 16 16 (listed_bits c.args.x)) x second.new.out
+          first.ensures.out_after first.ensures.value (second.ensures.out_after ∙ ap (sets x first.result) q);
+    }

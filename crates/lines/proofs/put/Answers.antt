@@ -9,5 +9,8 @@ use Rattle.lines.proofs.put.Goals as goal
 
 pub returns : goal.returns
 returns c =
-    let copied = c.copy in record { value = ap (λ (n : ℕ). c.args.at + n) copied.ensures.0; out_after = ap (λ (l : List ℕ). take c.args.at c.args.out.now ++ (l ++ drop (length c.args.out.now - c.args.at) (drop c.args.at c.args.out.now))) copied.ensures.1
-          ∙ sets_copied c.args.out.now c.args.at (length c.args.out.now - c.args.at) c.args.text.now refl c.requires }
+    let copied = c.copy in record {
+      value = ap (λ (n : ℕ). c.args.at + n) copied.ensures.0;
+      out_after = ap (λ (l : List ℕ). take c.args.at c.args.out.now ++ (l ++ drop (length c.args.out.now - c.args.at) (drop c.args.at c.args.out.now))) copied.ensures.1
+          ∙ sets_copied c.args.out.now c.args.at (length c.args.out.now - c.args.at) c.args.text.now refl c.requires;
+    }

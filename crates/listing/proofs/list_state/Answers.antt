@@ -39,8 +39,11 @@ put_lines-requires c =
     let digits = c.decimal_length-first in
     let count = c.lines_length in
     let dim = one_shifted 64 width (omega (arith, c.requires.0)) in
-    let qubits = c.qubits in record { dim_in_bounds = (omega (arith, dim, c.requires.1.0), omega (arith, dim, c.requires.1.1)); dim_in_bounds_2 = rest_fits S width _ digits.result count.result dim digits.ensures (count.ensures S) c.args.out.now
-          c.if-out-len.false qubits.result qubits.new.out qubits.ensures }
+    let qubits = c.qubits in record {
+      dim_in_bounds = (omega (arith, dim, c.requires.1.0), omega (arith, dim, c.requires.1.1));
+      dim_in_bounds_2 = rest_fits S width _ digits.result count.result dim digits.ensures (count.ensures S) c.args.out.now
+          c.if-out-len.false qubits.result qubits.new.out qubits.ensures;
+    }
 
 pub returns : goal.returns
 returns c =

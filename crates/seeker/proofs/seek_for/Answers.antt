@@ -23,9 +23,12 @@ remainder-left-requires c =
 
 pub start_for-requires : goal.start_for-requires
 start_for-requires c =
-    let a = c.args in record { seekable = seekable (caller_of a.caller) a.run.now (active_of a.end)
+    let a = c.args in record {
+      seekable = seekable (caller_of a.caller) a.run.now (active_of a.end)
           (sym c.check_with_start.ensures ∙ ap checked_of c.in-Run.is)
-          c.placed_row-row.ensures (omega (arith, c.if-row-ne0.false)) c.requires; left_value = c.remainder-left.ensures }
+          c.placed_row-row.ensures (omega (arith, c.if-row-ne0.false)) c.requires;
+      left_value = c.remainder-left.ensures;
+    }
 
 pub returns-in-Refused : goal.returns-in-Refused
 returns-in-Refused c =

@@ -3,4 +3,3 @@ pub mod Calls
 pub mod Lengths
 pub mod Newlines
 pub mod Pieces
-pub mod Numbers

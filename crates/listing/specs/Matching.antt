@@ -25,7 +25,7 @@ use Rattle.framelaws.specs.Memory.{Memory, stepped, ran}
 use Rattle.framelaws.specs.Survey.{Survey}
 use Rattle.framelaws.specs.Surveyed.{survey_width, survey_steps}
 use Rattle.lines.specs.Lines.{refusal_line}
-use Rattle.lines.specs.Numbers.{zero_part, nan_part, other_part}
+use Rattle.lines.proofs.Numbers.{zero_part, nan_part, other_part}
 use Rattle.runlaws.specs.Calls.{Ending, ending_of, survey_of, running, carrying}
 use Rattle.runlaws.specs.Field.{most_bytes}
 use Rattle.runlaws.proofs.FirstCorrection.{begun_read}

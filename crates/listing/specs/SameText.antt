@@ -15,7 +15,7 @@ use Rattle.framelaws.specs.Representable.{Representable, RepresentableState}
 use Rattle.lines.specs.Lengths.{part_length}
 use Rattle.lines.specs.Lines.{decimal, part, width_line, amplitude_line}
 use Rattle.lines.specs.Newlines.{line_count}
-use Rattle.lines.specs.Numbers.{same_part, part_same}
+use Rattle.lines.proofs.Numbers.{same_part, part_same}
 use Rattle.lines.specs.Pieces.{parts_same}
 use Rattle.runlaws.specs.Frame.{SameNumber, SameNumbers}
 use Rattle.listing.specs.Counted.{state_count}

@@ -5,8 +5,8 @@
 #
 # SOURCES is the folder that holds src/*.rs as published. The files stdin and stdout of crates/pauli_vectors and crates/kernel_vectors have a
 # line "# ---- recorded": what stands below it is written anew (what the Rust answers, its kernels by their scalar loops); above it the calls
-# stay, and the kernels' answers are those of vectors/model.py. crates/run_vectors has what vectors/runs.py answers, crates/frame_vectors
-# what vectors/frames.py does, which writes crates/report's and runs/frame.run too. They come out the same each time.
+# stay, and the kernels' answers are those of vectors/model.py. crates/run_vectors has what vectors/runs.py answers, crates/report_vectors
+# and crates/frame_vectors what vectors/frames.py does, which writes crates/report's and runs/frame.run too. They come out the same each time.
 #
 # Needs x86-64, cargo with edition 2024, two of Debian's packages (prepare.sh) and Python.
 set -eu

@@ -2,7 +2,7 @@
 """A second opinion on logs of frames and on judging them, and the lines of the program that tests both.
 
     logs.py answers < stdin > stdout      answers to calls, a line each
-    logs.py fuzz PROGRAM SEED COUNT       COUNT random calls asked of PROGRAM (target/bin/frame_vectors) as well: the first
+    logs.py fuzz PROGRAM SEED COUNT       COUNT random calls asked of PROGRAM (crates/frame_vectors/out/frame_vectors) as well: the first
                                           line that differs, or how many answers of each kind agree
 
 Its recorded lines stand behind those of reports.py in crates/frame_vectors; frames.py writes them.

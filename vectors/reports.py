@@ -2,10 +2,10 @@
 """A second opinion on the reports of steps, and the lines of the programs that test them.
 
     reports.py answers < stdin > stdout      answers to calls, a line each
-    reports.py fuzz PROGRAM SEED COUNT       COUNT random calls asked of PROGRAM (target/bin/frame_vectors) as well: the first
+    reports.py fuzz PROGRAM SEED COUNT       COUNT random calls asked of PROGRAM (crates/frame_vectors/out/frame_vectors) as well: the first
                                              line that differs, or how many answers of each kind agree
     reports.py report < input > text         what the program `report` prints of its input
-    reports.py inputs PROGRAM SEED COUNT     COUNT random inputs given to PROGRAM (target/bin/report) as well, and compared so
+    reports.py inputs PROGRAM SEED COUNT     COUNT random inputs given to PROGRAM (crates/report/out/report) as well, and compared so
 
 Its recorded lines stand before those of logs.py in crates/frame_vectors; frames.py writes them.
 

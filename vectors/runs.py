@@ -3,12 +3,12 @@
 
     runs.py answers < stdin > stdout     answers to calls, a line each
     runs.py write CRATES                 stdin and stdout of CRATES/run_vectors
-    runs.py fuzz PROGRAM SEED COUNT      COUNT random calls asked of PROGRAM (target/bin/run_vectors) as well:
+    runs.py fuzz PROGRAM SEED COUNT      COUNT random calls asked of PROGRAM (crates/run_vectors/out/run_vectors) as well:
                                          the first line that differs, or how many answers of each kind agree
     runs.py bench < run > text           what the program `bench` prints of a run
-    runs.py listings PROGRAM SEED COUNT  COUNT random runs given to PROGRAM (target/bin/bench) as well, and compared so
+    runs.py listings PROGRAM SEED COUNT  COUNT random runs given to PROGRAM (crates/bench/out/bench) as well, and compared so
     runs.py pairs PROGRAM SEED COUNT     COUNT random runs and Paulis that carrying accepts: the two files of E6 given to
-                                         PROGRAM (target/bin/bench), what it prints compared with `listing` and, where
+                                         PROGRAM (crates/bench/out/bench), what it prints compared with `listing` and, where
                                          both fit and the premise holds, with each other
 
 Written from the scope's text (document 01) and, for quarter turns, the emulator,

@@ -2985,7 +2985,7 @@ def random_state(rng, n, finite=True):
 
 def replay():
     """Accepted runs on finite states, where demand 3 promises `same`; then on others."""
-    rng, lines = random.Random(3), Lines()
+    rng, lines = random.Random(3), Lines(answer)
     lines.say("Runs of every kind of step from 0 to 4 qubits on finite states: the same by demand 3.")
     kinds = set()
     for place in range(150):
@@ -3035,7 +3035,7 @@ def both_turned(lines):
 
 def merges():
     """Accepted runs with two Paulis on their start qubits: E11 promises `same`, whatever the floats are."""
-    rng, lines, met, turned = random.Random(11), Lines(), {}, {}
+    rng, lines, met, turned = random.Random(11), Lines(answer), {}, {}
     lines.say("Runs of every kind of step from 0 to 5 qubits, and B and A of any phase: the same by E11.")
     kinds, emulator = set(), []
     for place in range(150):
@@ -3072,7 +3072,7 @@ def count_meetings(run, b, a, met, turned):
 
 def starts_for_ends():
     """Accepted runs, each with an end that a start was carried to, and with any Pauli on its last qubits."""
-    rng, lines, counts = random.Random(15), Lines(), Counter()
+    rng, lines, counts = random.Random(15), Lines(answer), Counter()
     lines.say("Runs of every kind of step from 0 to 12 qubits: an end that has a start, and one that may have none.")
     emulator = []
     for place in range(150):
@@ -3123,7 +3123,7 @@ def count_seeking(counts, width, steps, reached, other):
 def folded_runs():
     """Runs with many corrections: what is left of them, by the request's way and by carrying each correction to the end; then run
     from finite states, where E2 promises `same`, and from others; then damaged."""
-    rng, lines, counts = random.Random(40), Lines(), Counter()
+    rng, lines, counts = random.Random(40), Lines(answer), Counter()
     folding(lines)
     lines.say("Runs of every kind of step from 0 to 12 qubits, half of their fields corrections; some by the emulator too.")
     for place in range(39):

@@ -53,7 +53,8 @@ pub(crate) fn project_to_scratch(
         × Room kernel.action.nqubits re.now im.now × Room (kernel.action.nqubits - 1) scratch_re.old scratch_im.old }
     ensures { let T = state_of scratch_re.old scratch_im.old in
         let K = measurement_kernel_of kernel in
-        state_of scratch_re.new scratch_im.new ≡ written (K.action.n - 1) (kernel_projected K (bit_of branch) invnorm (state_of re.now im.now)) T }
+        state_of scratch_re.new scratch_im.new
+        ≡ written (K.action.n - 1) (kernel_projected K (bit_of branch) invnorm (state_of re.now im.now)) T }
 {
     let mut j = 0;
     while j < kernel.out_dim {

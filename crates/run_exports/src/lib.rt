@@ -76,7 +76,8 @@ pub extern "C" fn naribhush_run(
 ) -> SeenEnding
     ensures { let m = memory_of re.old im.old scratch_re.old scratch_im.old in
         let did = running service run.now m in
-        Seen result.verdict (seen_ending_of result) no_ending did.answer × (memory_of re.new im.new scratch_re.new scratch_im.new ≡ did.lent) }
+        Seen result.verdict (seen_ending_of result) no_ending did.answer
+        × (memory_of re.new im.new scratch_re.new scratch_im.new ≡ did.lent) }
 {
     seen::ending(runner::run_contiguous(run, re, im, scratch_re, scratch_im))
 }
@@ -180,7 +181,8 @@ pub extern "C" fn naribhush_serve(
 ) -> SeenServed
     ensures fact { let m = memory_of re.old im.old scratch_re.old scratch_im.old in
         let did = running service run.now m in
-        Seen result.ending.verdict (seen_ending_of result.ending) no_ending did.answer × (memory_of re.new im.new scratch_re.new scratch_im.new ≡ did.lent) }
+        Seen result.ending.verdict (seen_ending_of result.ending) no_ending did.answer
+        × (memory_of re.new im.new scratch_re.new scratch_im.new ≡ did.lent) }
     ensures ledger_value { let m = memory_of re.old im.old scratch_re.old scratch_im.old in
         let call : history.Call = record { run = run.now; memory = m } in
         ledger_of result.ledger ≡ history.after (history.serving call) (ledger_of ledger) }

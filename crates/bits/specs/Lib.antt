@@ -1,2 +1,1 @@
-pub mod Highest
 pub mod Opening

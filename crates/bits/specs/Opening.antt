@@ -7,13 +7,6 @@ use borrow.Author.Tests.{ltb-true}
 use Rattle.answers.specs.Answer.{Answer, refuse}
 use Rattle.answers.specs.Answer.Answer.{accepted, refused}
 use Rattle.bitlaws.specs.Opening.{open_bit}
-use Rattle.bits.specs.declared.Opened.{Opened}
-use Rattle.bits.specs.declared.Opened.TheVariants.{Index, Refused}
-
--- the answer that each case of the enum is
-abbrev pub opened_of : Opened → Answer ℕ
-opened_of (Index i) = accepted i
-opened_of (Refused n) = refused n
 
 -- row 5 past bit 63, else the 64-bit index with the bit opened: what moves past bit 63 is lost
 unfoldable pub opening : ℕ → ℕ → Answer ℕ

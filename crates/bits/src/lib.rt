@@ -6,22 +6,11 @@ ghost use Rattle.std.specs.Prelude.{◌≡◌, eqb, ◌+◌, ◌%◌};
 ghost use Rattle.bitlaws.specs.Digit.{bit_of, digit};
 ghost use Rattle.bitlaws.specs.Highest.{highest};
 ghost use Rattle.bitlaws.specs.Parity.{parity, overlap};
-ghost use Rattle.bits.specs.Highest.{highest_bit_of};
-ghost use Rattle.bits.specs.Opening.{opened_of, opening};
+ghost use Rattle.refusals.specs.Refusal.{answer_of};
+ghost use Rattle.refusals.specs.Optional.{option_of};
+ghost use Rattle.bits.specs.Opening.{opening};
 
-// What opening a bit answers: the wider index, or the refusal's number.
-#[derive(Clone, Copy)]
-pub enum Opened {
-    Index(usize),
-    Refused(u8),
-}
-
-// Where a word's highest set bit stands; `Empty` where none is set.
-#[derive(Clone, Copy)]
-pub enum HighestBit {
-    Bit(usize),
-    Empty,
-}
+use refusals::Row;
 
 // Whether the count of ones in a word is odd.
 pub fn is_odd_popcount(value: u64) -> bool
@@ -49,23 +38,23 @@ pub fn differs_from_parity(bit: bool, a: u64, b: u64) -> bool
 
 // Widens `packed` by opening a zero bit at position `bit`: the inverse of dropping qubit `bit` from
 // a basis index. A top bit that would move past bit 63 is lost; a position over 63 is refused by 5.
-pub fn insert_zero_bit(packed: usize, bit: usize) -> Opened
-    ensures { opened_of result ≡ opening packed bit }
+pub fn insert_zero_bit(packed: usize, bit: usize) -> Result<usize, Row>
+    ensures { answer_of (λ i. i) result ≡ opening packed bit }
 {
     if 63 < bit {
-        return Opened::Refused(5);
+        return Err(Row::NoSuchQubit);
     }
     let low_mask = (1usize << bit) - 1;
-    Opened::Index((packed & low_mask) | ((packed & !low_mask) << 1))
+    Ok((packed & low_mask) | ((packed & !low_mask) << 1))
 }
 
 // The highest set bit of a word, if it has one.
-pub fn highest_bit(word: u64) -> HighestBit
-    ensures { highest_bit_of result ≡ highest 64 word }
+pub fn highest_bit(word: u64) -> Option<usize>
+    ensures { option_of result ≡ highest 64 word }
 {
     if word == 0 {
-        return HighestBit::Empty;
+        return None;
     }
     let place = 63 - u64::leading_zeros(word);
-    HighestBit::Bit(place as usize)
+    Some(place as usize)
 }

@@ -2,9 +2,10 @@
 // a zero bit opened in a basis index.
 #![tactic(auto)]
 
-ghost use Rattle.std.specs.Prelude.{◌≡◌, eqb, ◌+◌, ◌%◌};
+ghost use Rattle.std.specs.Prelude.{◌≡◌, eqb, ◌<◌, ◌+◌, ◌%◌, ◌^◌};
 ghost use Rattle.bitlaws.specs.Digit.{bit_of, digit};
 ghost use Rattle.bitlaws.specs.Highest.{highest};
+ghost use Rattle.bitlaws.specs.Opening as law;
 ghost use Rattle.bitlaws.specs.Parity.{parity, overlap};
 ghost use Rattle.refusals.specs.Refusal.{answer_of};
 ghost use Rattle.refusals.specs.Optional.{option_of};
@@ -44,8 +45,16 @@ pub fn insert_zero_bit(packed: usize, bit: usize) -> Result<usize, Row>
     if 63 < bit {
         return Err(Row::NoSuchQubit);
     }
+    Ok(open_bit(packed, bit))
+}
+
+// The same for a position that the caller knows to lie in the word.
+pub fn open_bit(packed: usize, bit: usize) -> usize
+    requires { bit < 64 }
+    ensures { result ≡ law.open_bit bit packed % 2 ^ 64 }
+{
     let low_mask = (1usize << bit) - 1;
-    Ok((packed & low_mask) | ((packed & !low_mask) << 1))
+    (packed & low_mask) | ((packed & !low_mask) << 1)
 }
 
 // The highest set bit of a word, if it has one.

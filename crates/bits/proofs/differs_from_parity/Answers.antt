@@ -3,7 +3,6 @@ use lib.Bits.{bit_and}
 use lib.Ieee.{unlike}
 use Rattle.bitlaws.specs.Parity.{overlap, parity, bit_differs}
 use Rattle.bitlaws.proofs.Parity.{parity_lt}
-use borrow.Author.Rules.{rules}
 use Rattle.bits.proofs.differs_from_parity.Goals as goal
 
 pub returns : goal.returns

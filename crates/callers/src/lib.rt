@@ -1,66 +1,79 @@
-// Who calls for a run: how wide its states may be, and by which rows of the table a wider one is refused. A caller
-// is one of two, so that no other rows can be asked for.
+// Who calls for a run: how wide its states may be, and by which rows of the table a wider one is refused.
 #![tactic(auto)]
 
 ghost use Rattle.std.specs.Prelude.{◌≡◌};
-ghost use Rattle.framelaws.specs.Caller as frame;
-ghost use Rattle.callers.specs.Meaning.{caller_of};
+ghost use Rattle.callers.specs.Meaning.{caller_of, limits_of};
+ghost use Rattle.refusals.specs.Refusal.{number_of};
+
+use refusals::Row;
 
 // The widest state of the service's runs, and its rows of a start past that and of a promotion at it.
 const WIDEST_RUN: usize = 12;
 
-const START_ROW: u8 = 14;
+const START_ROW: Row = Row::BadField;
 
-const PROMOTION_ROW: u8 = 15;
+const PROMOTION_ROW: Row = Row::PromotionAtWidest;
 
 // The same of the emulator, a board that has 64 amplitudes (change request E8).
 const WIDEST_EMULATED: usize = 6;
 
-const EMULATED_START_ROW: u8 = 21;
+const EMULATED_START_ROW: Row = Row::TooWideForEmulator;
 
-const EMULATED_PROMOTION_ROW: u8 = 21;
+const EMULATED_PROMOTION_ROW: Row = Row::TooWideForEmulator;
 
-// The service's rows hold under any limit on the width; its own is `service`'s.
+// A caller is one of two, so that no other rows can be asked for.
 #[derive(Clone, Copy)]
 pub enum Caller {
-    Service(usize),
+    Service,
     Emulator,
 }
 
 impl Caller {
-    pub fn service() -> Caller
-        ensures { caller_of result ≡ frame.service }
-    {
-        Caller::Service(WIDEST_RUN)
-    }
-
-    // The greatest width.
-    pub fn widest(self) -> usize
-        ensures { result ≡ (caller_of self).widest }
+    pub fn limits(self) -> Limits
+        ensures { limits_of result ≡ caller_of self }
     {
         match self {
-            Caller::Service(limit) => limit,
-            Caller::Emulator => WIDEST_EMULATED,
+            Caller::Service => Limits::Service(WIDEST_RUN),
+            Caller::Emulator => Limits::Emulator,
+        }
+    }
+}
+
+// What a run is checked under: the service's rows with any limit on the width, or the emulator's.
+#[derive(Clone, Copy)]
+pub enum Limits {
+    Service(usize),
+    Emulator,
+}
+
+impl Limits {
+    // The greatest width.
+    pub fn widest(self) -> usize
+        ensures { result ≡ (limits_of self).widest }
+    {
+        match self {
+            Limits::Service(limit) => limit,
+            Limits::Emulator => WIDEST_EMULATED,
         }
     }
 
     // The row that refuses a start field past it.
-    pub fn start_row(self) -> u8
-        ensures { result ≡ (caller_of self).start_row }
+    pub fn start_row(self) -> Row
+        ensures { number_of result ≡ (limits_of self).start_row }
     {
         match self {
-            Caller::Service(_) => START_ROW,
-            Caller::Emulator => EMULATED_START_ROW,
+            Limits::Service(_) => START_ROW,
+            Limits::Emulator => EMULATED_START_ROW,
         }
     }
 
     // The row that refuses a promotion at it.
-    pub fn promotion_row(self) -> u8
-        ensures { result ≡ (caller_of self).promotion_row }
+    pub fn promotion_row(self) -> Row
+        ensures { number_of result ≡ (limits_of self).promotion_row }
     {
         match self {
-            Caller::Service(_) => PROMOTION_ROW,
-            Caller::Emulator => EMULATED_PROMOTION_ROW,
+            Limits::Service(_) => PROMOTION_ROW,
+            Limits::Emulator => EMULATED_PROMOTION_ROW,
         }
     }
 }

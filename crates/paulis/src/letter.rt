@@ -4,21 +4,23 @@ ghost use Rattle.paulilaws.specs.Letter as book;
 ghost use Rattle.bitlaws.specs.Digit.{bit_of};
 ghost use Rattle.masks.specs.Mask.{mask};
 ghost use Rattle.paulis.specs.Calls.{bit_call};
-ghost use Rattle.paulis.specs.Strings.{pauli_of, bit_answer_of, pauli_letter_of};
+ghost use Rattle.refusals.specs.Refusal.{answer_of};
+ghost use Rattle.paulis.specs.Strings.{pauli_of, pauli_letter_of};
 
-use crate::{BitAnswer, Pauli, PauliString};
+use crate::{Pauli, PauliString};
+use refusals::Row;
 
 // Qubit q's bit of a mask of the Pauli, which is looked at here.
-pub(crate) fn mask_bit(pauli: PauliString, words: [u64; 4], q: usize) -> BitAnswer
-    ensures { bit_answer_of result ≡ bit_call (pauli_of pauli) (mask words) q }
+pub(crate) fn mask_bit(pauli: PauliString, words: [u64; 4], q: usize) -> Result<bool, Row>
+    ensures { answer_of (λ b. b) result ≡ bit_call (pauli_of pauli) (mask words) q }
 {
     if !pauli.is_pauli() {
-        return BitAnswer::Refused(3);
+        return Err(Row::NoPauli);
     }
     if pauli.nqubits <= q {
-        return BitAnswer::Refused(5);
+        return Err(Row::NoSuchQubit);
     }
-    BitAnswer::Bit(masks::packed_bit(words, q))
+    Ok(masks::packed_bit(words, q))
 }
 
 // Qubit q's letter.

@@ -5,7 +5,6 @@ use Rattle.paulis.specs.Rows.{no_pauli_qubit, no_qubit, a_qubit}
 use Rattle.paulilaws.specs.Letter.{letter_at}
 use Rattle.paulis.specs.Strings.{pauli_of}
 use mathlib.Core.Bool.{not}
-use borrow.Author.Rules.{rules}
 use Rattle.paulis.proofs.PauliString.get.Goals as goal
 
 pub returns-then-not-is_pauli : goal.returns-then-not-is_pauli

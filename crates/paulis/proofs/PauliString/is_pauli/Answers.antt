@@ -1,6 +1,5 @@
 use borrow.Author.Tests.{le-leb, lt-leb}
 use Rattle.paulilaws.specs.Pauli.{fits}
-use borrow.Author.Rules.{rules}
 use Rattle.paulis.proofs.PauliString.is_pauli.Goals as goal
 
 pub returns-then-self-gt3 : goal.returns-then-self-gt3

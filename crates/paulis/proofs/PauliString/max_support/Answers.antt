@@ -7,7 +7,6 @@ use Rattle.paulis.specs.Calls.{support_call}
 use Rattle.paulis.specs.Rows.{no_pauli, a_pauli, admitted}
 use Rattle.paulis.specs.Strings.{pauli_of}
 use mathlib.Core.Bool.{not}
-use borrow.Author.Rules.{rules}
 use Rattle.paulis.proofs.PauliString.max_support.Goals as goal
 
 pub returns-then-not-is_pauli : goal.returns-then-not-is_pauli
@@ -23,6 +22,6 @@ returns c =
     let told = c.is_pauli.ensures in
     let a = admitted P told (ap not c.if-not-is_pauli.false) in
     let f = a.fitting in
-    c.highest_bit.ensures
+    ap accepted c.highest_bit.ensures
     ∙ ap accepted (highest_wider P.n 256 (bit_or P.x P.z) (or_lt P.n P.x P.z f.xs f.zs) a.width)
     ∙ sym (a_pauli P (accepted (max_support P)) told (ap not c.if-not-is_pauli.false))

@@ -4,7 +4,6 @@ use Rattle.bitlaws.specs.Digit.{bit_of, digit, digit_lt}
 use Rattle.paulilaws.specs.Letter.{letter_at, letter_of}
 use Rattle.masks.specs.Mask.{mask}
 use Rattle.masks.specs.MaskLaws.{bit_of_lem}
-use borrow.Author.Rules.{rules}
 use Rattle.paulis.proofs.letter.at.Goals as goal
 
 pub returns : goal.returns

@@ -1,5 +1,4 @@
 use lib.Dec.{lit≤}
-use borrow.Author.Rules.{rules}
 use Rattle.paulis.proofs.letter.is_y.Goals as goal
 
 pub returns-in-I : goal.returns-in-I

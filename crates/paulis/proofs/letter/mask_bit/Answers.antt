@@ -7,7 +7,6 @@ use Rattle.paulis.specs.Calls.{bit_call}
 use Rattle.paulis.specs.Rows.{no_pauli_qubit, no_qubit, a_qubit}
 use Rattle.paulis.specs.Strings.{pauli_of}
 use mathlib.Core.Bool.{not}
-use borrow.Author.Rules.{rules}
 use Rattle.paulis.proofs.letter.mask_bit.Goals as goal
 
 pub returns-then-not-is_pauli : goal.returns-then-not-is_pauli

@@ -6,7 +6,6 @@ use Rattle.paulilaws.specs.Pauli.{same}
 use Rattle.paulilaws.specs.Letter.{Letter, with_letter, is_y}
 use Rattle.masks.specs.Mask.{mask}
 use Rattle.masks.specs.MaskLaws.{bit_written_inside}
-use borrow.Author.Rules.{rules}
 use Rattle.paulis.proofs.letter.with.Goals as goal
 
 pub returns : goal.returns

@@ -4,14 +4,13 @@
 -- what the invariant says before a word is looked at
 use mathlib.Core.Path.{◌≡◌, sym, ap, ◌∙◌, subst}
 use mathlib.Core.Option.{some}
-use Prim.Native.Nat.{ℕ, suc, ◌+◌, ◌-◌, ◌*◌, ◌^◌, ◌≤◌, ◌<◌}
+use Prim.Native.Nat.{ℕ, suc, ◌+◌, ◌-◌, ◌*◌, ◌^◌, ◌<◌}
 use native.Mathlib.Omega.{arith}
 use lib.Bits.{bit_or}
 use lib.Count.{leading_le, count_leading_zeros}
 use lib.ListN.{get_or}
 use mir.Val.{Fits}
 use mir.Syntax.{w64}
-use Rattle.answers.specs.Answer.Answer.{accepted}
 use Rattle.masks.specs.Mask.{mask}
 use Rattle.masks.specs.MaskLaws.{Small, or_below, word_empty, word_leading, word_top, none_top}
 use borrow.Author.Rules.{rules}
@@ -65,7 +64,7 @@ pub returns-then-word-eq0 : goal.returns-then-word-eq0
 returns-then-word-eq0 c =
     let x = c.args.x in
     let z = c.args.z in
-    ap accepted (sym (none_top x z (small_x (goal.at.returns-then-word-eq0 c).Start) (small_z (goal.at.returns-then-word-eq0 c).Start) (subst (λ (n : ℕ). bit_or (mask x) (mask z) < 2 ^ (n * 64)) c.if-word-eq0.true c.loop-word.invariant.1)))
+    sym (none_top x z (small_x (goal.at.returns-then-word-eq0 c).Start) (small_z (goal.at.returns-then-word-eq0 c).Start) (subst (λ (n : ℕ). bit_or (mask x) (mask z) < 2 ^ (n * 64)) c.if-word-eq0.true c.loop-word.invariant.1))
 
 pub returns-then-bits-ne0 : goal.returns-then-bits-ne0
 returns-then-bits-ne0 c =
@@ -75,4 +74,4 @@ returns-then-bits-ne0 c =
     let v : ℕ = c.either-bits.result in
     let top = word_top x z (small_x (goal.at.returns-then-bits-ne0 c).Start) (small_z (goal.at.returns-then-bits-ne0 c).Start) word v c.either-bits.ensures c.if-bits-ne0.true (omega (arith, c.loop-word.invariant.0)) (below (goal.at.returns-then-bits-ne0 c).Else-word-eq0) in
     let place : word * 64 + 63 - count_leading_zeros 64 v ≡ word * 64 + 64 - count_leading_zeros 64 v - 1 = omega arith in
-    ap (λ (n : ℕ). accepted (some n)) place ∙ ap accepted (sym top)
+    ap some place ∙ sym top

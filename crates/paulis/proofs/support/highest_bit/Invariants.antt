@@ -1,15 +1,6 @@
-use mathlib.Core.Path.{◌≡◌, sym, ap, ◌∙◌, subst}
-use mathlib.Core.Option.{some}
-use Prim.Native.Nat.{ℕ, suc, ◌+◌, ◌-◌, ◌*◌, ◌^◌, ◌≤◌, ◌<◌}
-use native.Mathlib.Omega.{arith}
+use Prim.Native.Nat.{◌*◌, ◌^◌, ◌≤◌, ◌<◌}
 use lib.Bits.{bit_or}
-use lib.Count.{leading_le, count_leading_zeros}
-use lib.ListN.{get_or}
-use mir.Val.{Fits}
-use mir.Syntax.{w64}
-use Rattle.answers.specs.Answer.Answer.{accepted}
 use Rattle.masks.specs.Mask.{mask}
-use Rattle.masks.specs.MaskLaws.{Small, or_below, word_empty, word_leading, word_top, none_top}
 use Rattle.paulis.proofs.support.highest_bit.Given as goal
 
 abbrev pub invariant-loop-word : goal.invariant-loop-word

@@ -15,15 +15,14 @@ const BRANCH_AT: usize = 21;
 
 // The step's sign or branch, written where the field that begins at `at` has it. Nothing is written where it has
 // none, or where that place lies past the bytes.
+#[tactic(auto, using(steps::proofs::Flag::byte_digit), unfolding(runlaws::specs::Flags::flag_at))]
 pub fn write_flag(bytes: &mut [u8], at: usize, step: Step)
     ensures { bytes.new ≡ flag_at at (step_of step) bytes.old }
 {
     match step {
-        Step::Rotation(_, sign, _, _) => write(bytes, at, SIGN_AT, sign as u8),
+        Step::Rotation(_, sign, ..) => write(bytes, at, SIGN_AT, sign as u8),
         Step::Projection(_, _, branch, _) => write(bytes, at, BRANCH_AT, branch as u8),
-        Step::Promotion(_, _) => {}
-        Step::Correction(_) => {}
-        Step::QuarterTurn(_) => {}
+        Step::Promotion(..) | Step::Correction(_) | Step::QuarterTurn(_) => {}
     }
 }
 
@@ -31,11 +30,7 @@ pub fn write_flag(bytes: &mut [u8], at: usize, step: Step)
 fn write(bytes: &mut [u8], at: usize, behind: usize, byte: u8)
     ensures { bytes.new ≡ set bytes.old (at + behind) byte }
 {
-    if bytes.len() <= at {
-        return;
+    if at < bytes.len() && behind < bytes.len() - at {
+        bytes[at + behind] = byte;
     }
-    if bytes.len() - at <= behind {
-        return;
-    }
-    bytes[at + behind] = byte;
 }

@@ -1,16 +1,9 @@
 -- What each call of the crate answers: the rows of the table that refuse it, lowest number first, then its value.
 use Rattle.std.specs.Prelude.{Bool, not, ◌&&◌, ℕ, eqb}
 use Rattle.answers.specs.Answer.{Answer, refuse}
-use Rattle.answers.specs.Answer.Answer.{accepted, refused}
+use Rattle.answers.specs.Answer.Answer.{accepted}
 use Rattle.paulilaws.specs.Pauli.{Pauli, fits, product, anti, coefficient, hermitian, sign}
 use Rattle.paulis.specs.Calls.{on_pauli}
-use Rattle.pauligroup.specs.declared.PhaseAnswer.{PhaseAnswer}
-use Rattle.pauligroup.specs.declared.PhaseAnswer.TheVariants as phase
-
--- the answer that each case of the enum is
-abbrev pub phase_answer_of : PhaseAnswer → Answer ℕ
-phase_answer_of (phase.Exponent k) = accepted k
-phase_answer_of (phase.Refused n) = refused n
 
 -- rows 3 and 4: no Paulis, or of different widths
 unfoldable pub on_pair : {A : Type 0} → Pauli → Pauli → Answer A → Answer A

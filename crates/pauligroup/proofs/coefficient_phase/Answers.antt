@@ -5,7 +5,6 @@ use Rattle.paulis.specs.Rows.{no_pauli, a_pauli}
 use Rattle.paulilaws.specs.Pauli.{coefficient}
 use Rattle.paulis.specs.Strings.{pauli_of}
 use mathlib.Core.Bool.{not}
-use borrow.Author.Rules.{rules}
 use Rattle.pauligroup.proofs.coefficient_phase.Goals as goal
 
 pub returns-then-not-is_pauli : goal.returns-then-not-is_pauli

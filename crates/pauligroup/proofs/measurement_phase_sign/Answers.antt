@@ -11,7 +11,6 @@ use Rattle.paulilaws.specs.Pauli.{coefficient, hermitian, sign}
 use Rattle.paulilaws.proofs.Algebra.{sign_test}
 use Rattle.paulis.specs.Strings.{pauli_of}
 use mathlib.Core.Bool.{not}
-use borrow.Author.Rules.{rules}
 use Rattle.pauligroup.proofs.measurement_phase_sign.Goals as goal
 
 pub returns-then-not-is_pauli : goal.returns-then-not-is_pauli

@@ -6,7 +6,6 @@ use Rattle.paulilaws.specs.Pauli.{anti}
 use lib.Dec.{eqb}
 use Rattle.paulis.specs.Strings.{pauli_of}
 use mathlib.Core.Bool.{not}
-use borrow.Author.Rules.{rules}
 use Rattle.pauligroup.proofs.pauli_anticommutes.Goals as goal
 
 pub returns-then-not-is_pauli : goal.returns-then-not-is_pauli

@@ -7,7 +7,6 @@ use Rattle.paulis.specs.Rows.{no_pauli, a_pauli}
 use Rattle.paulilaws.specs.Pauli.{hermitian}
 use Rattle.paulis.specs.Strings.{pauli_of}
 use mathlib.Core.Bool.{not}
-use borrow.Author.Rules.{rules}
 use Rattle.pauligroup.proofs.pauli_squares_to_identity.Goals as goal
 
 pub returns-then-not-is_pauli : goal.returns-then-not-is_pauli

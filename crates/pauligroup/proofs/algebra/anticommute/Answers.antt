@@ -7,7 +7,6 @@ use native.Mathlib.Nat.{add-mod}
 use lib.Dec.{eqb}
 use Rattle.bitlaws.specs.Parity.{overlap, parity}
 use Rattle.paulilaws.specs.Pauli.{anti}
-use borrow.Author.Rules.{rules}
 use Rattle.pauligroup.proofs.algebra.anticommute.Goals as goal
 
 pub returns : goal.returns

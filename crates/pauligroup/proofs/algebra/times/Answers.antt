@@ -2,16 +2,13 @@
 use mathlib.Core.Path.{refl}
 use Rattle.bitlaws.specs.Parity.{overlap, parity}
 use Rattle.paulilaws.specs.Pauli.{same, product}
-use borrow.Author.Rules.{rules}
 use Rattle.pauligroup.proofs.algebra.times.Goals as goal
 
 pub returns : goal.returns
 unfolding product overlap parity
 returns c =
-    let wa = c.wide.ensures.0 in
-    let wb = c.wide-2.ensures.0 in
     let carry = c.shared_ones-carry.ensures.0 in
     same refl
-    (rw (wa, wb, carry))
+    (rw (c.from.ensures, c.from-2.ensures, carry))
     c.xor_words.ensures
     c.xor_words-2.ensures

@@ -9,10 +9,17 @@ ghost use Rattle.std.specs.Prelude.{◌≡◌, ◌<◌};
 ghost use Rattle.bitlaws.specs.Opening.{drop_bit};
 ghost use Rattle.bitlaws.specs.Parity.{overlap};
 ghost use Rattle.paulilaws.specs.Pauli.{fits};
+ghost use Rattle.refusals.specs.Refusal.{answer_of, row_of};
+ghost use Rattle.paulis.specs.Strings.{pauli_of};
 ghost use Rattle.paulis.specs.Calls.{bit_call};
 ghost use Rattle.pauligroup.specs.Calls.{product_call, anticommutes_call, squares_call};
-ghost use Rattle.activepauli.specs.Active.{active_of, active_pauli_answer_of, active_bit_answer_of};
+ghost use Rattle.activepauli.specs.Active.{active_of};
+ghost use Rattle.activepauli.specs.Narrowed.{narrowed};
+ghost use Rattle.activepauli.specs.Rows.{pauli_row, qubit_row, pair_row};
 ghost use Rattle.activepauli.specs.Calls.{raised_call, dropped_call};
+
+use paulis::PauliString;
+use refusals::{Row, refuse_if};
 
 #[repr(C)]
 #[derive(Clone, Copy)]
@@ -23,19 +30,33 @@ pub struct ActivePauli {
     pub phase: u8,
 }
 
-#[derive(Clone, Copy)]
-pub enum ActivePauliAnswer {
-    Pauli(ActivePauli),
-    Refused(u8),
-}
+// The same Pauli with four words a mask.
+impl From<ActivePauli> for PauliString {
+    ghost from_gives = { λ pauli string. pauli_of string ≡ active_of pauli };
 
-#[derive(Clone, Copy)]
-pub enum ActiveBitAnswer {
-    Bit(bool),
-    Refused(u8),
+    fn from(pauli: ActivePauli) -> PauliString {
+        PauliString {
+            nqubits: pauli.nqubits,
+            x: [pauli.x, 0, 0, 0],
+            z: [pauli.z, 0, 0, 0],
+            phase: pauli.phase,
+        }
+    }
 }
 
 impl ActivePauli {
+    // The Pauli with the lowest word of each mask.
+    pub fn lowest_words(pauli: PauliString) -> ActivePauli
+        ensures { active_of result ≡ narrowed (pauli_of pauli) }
+    {
+        ActivePauli {
+            nqubits: pauli.nqubits,
+            x: pauli.x[0],
+            z: pauli.z[0],
+            phase: pauli.phase,
+        }
+    }
+
     // Whether the fields are a Pauli: phase at most 3, width at most 256, no mask bit at or above
     // the width.
     pub fn is_pauli(self) -> bool
@@ -47,17 +68,36 @@ impl ActivePauli {
             & masks::word_fits(self.z, self.nqubits)
     }
 
-    // The product, in which `rhs` acts first.
-    pub fn mul(self, rhs: ActivePauli) -> ActivePauliAnswer
-        ensures { active_pauli_answer_of result ≡ product_call (active_of self) (active_of rhs) }
+    // 3.
+    pub fn pauli_row(self) -> Result<(), Row>
+        ensures { row_of result ≡ pauli_row (active_of self) }
     {
-        if !(self.is_pauli() & rhs.is_pauli()) {
-            return ActivePauliAnswer::Refused(3);
-        }
-        if self.nqubits != rhs.nqubits {
-            return ActivePauliAnswer::Refused(4);
-        }
-        ActivePauliAnswer::Pauli(ActivePauli {
+        refuse_if(!self.is_pauli(), Row::NoPauli)
+    }
+
+    // 3 and 5.
+    fn qubit_row(self, q: usize) -> Result<(), Row>
+        ensures { row_of result ≡ qubit_row (active_of self) q }
+    {
+        self.pauli_row()?;
+        refuse_if(self.nqubits <= q, Row::NoSuchQubit)
+    }
+
+    // 3 and 4.
+    fn pair_row(self, other: ActivePauli) -> Result<(), Row>
+        ensures { row_of result ≡ pair_row (active_of self) (active_of other) }
+    {
+        self.pauli_row()?;
+        other.pauli_row()?;
+        refuse_if(self.nqubits != other.nqubits, Row::WidthsDiffer)
+    }
+
+    // The product, in which `rhs` acts first.
+    pub fn mul(self, rhs: ActivePauli) -> Result<ActivePauli, Row>
+        ensures { answer_of active_of result ≡ product_call (active_of self) (active_of rhs) }
+    {
+        self.pair_row(rhs)?;
+        Ok(ActivePauli {
             nqubits: self.nqubits,
             x: self.x ^ rhs.x,
             z: self.z ^ rhs.z,
@@ -66,54 +106,38 @@ impl ActivePauli {
     }
 
     // Symplectic inner product: true when the two anticommute.
-    pub fn anticommutes(self, other: ActivePauli) -> ActiveBitAnswer
-        ensures { active_bit_answer_of result ≡ anticommutes_call (active_of self) (active_of other) }
+    pub fn anticommutes(self, other: ActivePauli) -> Result<bool, Row>
+        ensures { answer_of (λ b. b) result ≡ anticommutes_call (active_of self) (active_of other) }
     {
-        if !(self.is_pauli() & other.is_pauli()) {
-            return ActiveBitAnswer::Refused(3);
-        }
-        if self.nqubits != other.nqubits {
-            return ActiveBitAnswer::Refused(4);
-        }
-        ActiveBitAnswer::Bit((shared(self.x, other.z) + shared(self.z, other.x)) % 2 == 1)
+        self.pair_row(other)?;
+        Ok((shared(self.x, other.z) + shared(self.z, other.x)) % 2 == 1)
     }
 
     // Whether the operator is Hermitian.
-    pub fn is_hermitian(self) -> ActiveBitAnswer
-        ensures { active_bit_answer_of result ≡ squares_call (active_of self) }
+    pub fn is_hermitian(self) -> Result<bool, Row>
+        ensures { answer_of (λ b. b) result ≡ squares_call (active_of self) }
     {
-        if !self.is_pauli() {
-            return ActiveBitAnswer::Refused(3);
-        }
-        ActiveBitAnswer::Bit((self.phase % 2 + shared(self.x, self.z)) % 2 == 0)
+        self.pauli_row()?;
+        Ok((self.phase % 2 + shared(self.x, self.z)) % 2 == 0)
     }
 
     // Times i^exponent.
-    pub fn raised(self, exponent: u8) -> ActivePauliAnswer
-        ensures { active_pauli_answer_of result ≡ raised_call (active_of self) exponent }
+    pub fn raised(self, exponent: u8) -> Result<ActivePauli, Row>
+        ensures { answer_of active_of result ≡ raised_call (active_of self) exponent }
     {
-        if !self.is_pauli() {
-            return ActivePauliAnswer::Refused(3);
-        }
-        ActivePauliAnswer::Pauli(ActivePauli {
-            nqubits: self.nqubits,
-            x: self.x,
-            z: self.z,
+        self.pauli_row()?;
+        Ok(ActivePauli {
             phase: (self.phase % 4 + exponent % 4) % 4,
+            ..self
         })
     }
 
     // Without qubit `q`: the masks lose its bit, those above it moving down one.
-    pub fn dropped(self, q: usize) -> ActivePauliAnswer
-        ensures { active_pauli_answer_of result ≡ dropped_call (active_of self) q }
+    pub fn dropped(self, q: usize) -> Result<ActivePauli, Row>
+        ensures { answer_of active_of result ≡ dropped_call (active_of self) q }
     {
-        if !self.is_pauli() {
-            return ActivePauliAnswer::Refused(3);
-        }
-        if self.nqubits <= q {
-            return ActivePauliAnswer::Refused(5);
-        }
-        ActivePauliAnswer::Pauli(ActivePauli {
+        self.qubit_row(q)?;
+        Ok(ActivePauli {
             nqubits: self.nqubits - 1,
             x: drop_bit(self.x, q),
             z: drop_bit(self.z, q),
@@ -122,38 +146,33 @@ impl ActivePauli {
     }
 
     // Whether qubit `q` has an X component.
-    pub fn x_bit(self, q: usize) -> ActiveBitAnswer
-        ensures { active_bit_answer_of result ≡ bit_call (active_of self) self.x q }
+    pub fn x_bit(self, q: usize) -> Result<bool, Row>
+        ensures { answer_of (λ b. b) result ≡ bit_call (active_of self) self.x q }
     {
-        mask_bit(self, self.x, q)
+        self.mask_bit(self.x, q)
     }
 
     // Whether qubit `q` has a Z component.
-    pub fn z_bit(self, q: usize) -> ActiveBitAnswer
-        ensures { active_bit_answer_of result ≡ bit_call (active_of self) self.z q }
+    pub fn z_bit(self, q: usize) -> Result<bool, Row>
+        ensures { answer_of (λ b. b) result ≡ bit_call (active_of self) self.z q }
     {
-        mask_bit(self, self.z, q)
+        self.mask_bit(self.z, q)
     }
-}
 
-// Qubit q's bit of a mask of the Pauli, which is looked at here.
-fn mask_bit(pauli: ActivePauli, word: u64, q: usize) -> ActiveBitAnswer
-    ensures { active_bit_answer_of result ≡ bit_call (active_of pauli) word q }
-{
-    if !pauli.is_pauli() {
-        return ActiveBitAnswer::Refused(3);
+    // Qubit q's bit of one of the masks.
+    fn mask_bit(self, mask: u64, q: usize) -> Result<bool, Row>
+        ensures { answer_of (λ b. b) result ≡ bit_call (active_of self) mask q }
+    {
+        self.qubit_row(q)?;
+        Ok(bits::word_bit(mask, q))
     }
-    if pauli.nqubits <= q {
-        return ActiveBitAnswer::Refused(5);
-    }
-    ActiveBitAnswer::Bit(bits::word_bit(word, q))
 }
 
 // The parity of the bits that two words share.
 fn shared(a: u64, b: u64) -> u8
     ensures { (result ≡ overlap a b) × (result < 2) }
 {
-    if bits::is_odd_popcount(a & b) { 1 } else { 0 }
+    u8::from(bits::is_odd_popcount(a & b))
 }
 
 // The word without bit q, those above it moved down one; from bit 64 on there is none to drop.

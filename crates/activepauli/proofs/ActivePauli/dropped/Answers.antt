@@ -1,32 +1,28 @@
 use mathlib.Core.Path.{refl, sym, ap, ◌∙◌}
+use native.Mathlib.Omega.{arith}
 use Rattle.answers.specs.Answer.Answer.{accepted}
 use Rattle.paulilaws.specs.Pauli.{same}
 use Rattle.paulilaws.specs.Frame.{dropped}
-use Rattle.paulis.specs.Rows.{no_pauli_qubit, no_qubit, a_qubit}
+use Rattle.refusals.proofs.Asked.{asked}
 use Rattle.activepauli.specs.Active.{active_of}
+use Rattle.activepauli.specs.Rows.{qubit_row, qubit_answered, qubit_value, qubit_passed}
 use Rattle.activepauli.specs.Calls.{dropped_call}
-use mathlib.Core.Bool.{not}
-use borrow.Author.Rules.{rules}
 use Rattle.activepauli.proofs.ActivePauli.dropped.Goals as goal
 
-pub returns-then-not-is_pauli : goal.returns-then-not-is_pauli
+pub returns-in_err-qubit_row : goal.returns-in_err-qubit_row
 unfolding dropped_call
-returns-then-not-is_pauli c =
+returns-in_err-qubit_row c =
     let a = c.args in
     let P = active_of a.self in
-    sym (no_pauli_qubit P a.q (accepted (dropped a.q P)) c.is_pauli.ensures (ap not c.if-not-is_pauli.true))
+    asked _ _ (qubit_row P a.q) active_of (dropped a.q P) c.from_residual.ensures.1 c.in_err-qubit_row.ensures
+    ∙ qubit_answered (dropped a.q P) P a.q
 
-pub returns-then-self-q : goal.returns-then-self-q
-unfolding dropped_call
-returns-then-self-q c =
-    let a = c.args in
-    let P = active_of a.self in
-    sym (no_qubit P a.q (accepted (dropped a.q P)) c.is_pauli.ensures (ap not c.if-not-is_pauli.false) c.if-self-q.true)
+pub overflow_sub-result : goal.overflow_sub-result
+overflow_sub-result c = omega (arith, qubit_passed (active_of c.args.self) c.args.q (sym c.in_ok-qubit_row.ensures))
 
 pub returns : goal.returns
 unfolding dropped_call dropped
 returns c =
     let a = c.args in
     let P = active_of a.self in
-    ap accepted (same refl refl c.drop_bit.ensures c.drop_bit-2.ensures)
-    ∙ sym (a_qubit P a.q (accepted (dropped a.q P)) c.is_pauli.ensures (ap not c.if-not-is_pauli.false) c.if-self-q.false)
+    ap accepted (same refl refl c.drop_bit.ensures c.drop_bit-2.ensures) ∙ qubit_value (dropped a.q P) P a.q c.in_ok-qubit_row.ensures

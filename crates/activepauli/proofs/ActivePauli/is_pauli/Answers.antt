@@ -1,5 +1,4 @@
 use Rattle.paulilaws.specs.Pauli.{fits}
-use borrow.Author.Rules.{rules}
 use Rattle.activepauli.proofs.ActivePauli.is_pauli.Goals as goal
 
 pub returns : goal.returns

@@ -20,48 +20,38 @@ pub struct Complex64 {
 pub const H_BITS: u64 = 0x3FE6A09E667F3BCD;
 
 // i^phase, by the phase modulo 4.
+#[tactic(auto, unfolding(amplitudelaws::specs::Arithmetic::power))]
 pub fn phase_factor(phase: u8) -> Complex64
     ensures { complex_of result ≡ formula.power binary (phase % 4) }
 {
-    let turns = phase % 4;
-    if turns == 0 {
-        return Complex64 { re: 1.0, im: 0.0 };
+    match phase % 4 {
+        0 => Complex64 { re: 1.0, im: 0.0 },
+        1 => Complex64 { re: 0.0, im: 1.0 },
+        2 => Complex64 { re: -1.0, im: 0.0 },
+        _ => Complex64 { re: 0.0, im: -1.0 },
     }
-    if turns == 1 {
-        return Complex64 { re: 0.0, im: 1.0 };
-    }
-    if turns == 2 {
-        return Complex64 { re: -1.0, im: 0.0 };
-    }
-    Complex64 { re: 0.0, im: -1.0 }
 }
 
 // i^exponent times the amplitude, by exchanging and negating its parts; the exponent counts modulo 4.
+#[tactic(auto, unfolding(amplitudelaws::specs::Arithmetic::times_power, amplitudelaws::specs::Arithmetic::negated))]
 pub fn times_power(exponent: u8, a: Complex64) -> Complex64
     ensures { complex_of result ≡ formula.times_power binary (exponent % 4) (complex_of a) }
 {
-    let turns = exponent % 4;
-    if turns == 0 {
-        return a;
-    }
-    if turns == 1 {
-        return Complex64 {
+    match exponent % 4 {
+        0 => a,
+        1 => Complex64 {
             re: -a.im,
             im: a.re,
-        };
-    }
-    if turns == 2 {
-        return Complex64 {
-            re: -a.re,
-            im: -a.im,
-        };
-    }
-    Complex64 {
-        re: a.im,
-        im: -a.re,
+        },
+        2 => negated(true, a),
+        _ => Complex64 {
+            re: a.im,
+            im: -a.re,
+        },
     }
 }
 
+#[tactic(auto, unfolding(amplitudelaws::specs::Arithmetic::times))]
 pub fn times(a: Complex64, b: Complex64) -> Complex64
     ensures { complex_of result ≡ formula.times binary (complex_of a) (complex_of b) }
 {
@@ -71,6 +61,7 @@ pub fn times(a: Complex64, b: Complex64) -> Complex64
     }
 }
 
+#[tactic(auto, unfolding(amplitudelaws::specs::Arithmetic::conjugate))]
 pub fn conjugate(a: Complex64) -> Complex64
     ensures { complex_of result ≡ formula.conjugate binary (complex_of a) }
 {
@@ -81,6 +72,7 @@ pub fn conjugate(a: Complex64) -> Complex64
 }
 
 // The negative where `odd`.
+#[tactic(auto, unfolding(amplitudelaws::specs::Arithmetic::negated))]
 pub fn negated(odd: bool, a: Complex64) -> Complex64
     ensures { complex_of result ≡ formula.negated binary odd (complex_of a) }
 {
@@ -94,6 +86,7 @@ pub fn negated(odd: bool, a: Complex64) -> Complex64
 }
 
 // -1 where `odd`, else 1.
+#[tactic(auto, unfolding(amplitudelaws::specs::Arithmetic::direction))]
 pub fn direction(odd: bool) -> f64
     ensures { result ≡ formula.direction binary (bit_of odd) }
 {
@@ -101,6 +94,7 @@ pub fn direction(odd: bool) -> f64
 }
 
 // c times each part.
+#[tactic(auto, unfolding(amplitudelaws::specs::Arithmetic::scale))]
 pub fn scale(c: f64, a: Complex64) -> Complex64
     ensures { complex_of result ≡ formula.scale binary c (complex_of a) }
 {
@@ -111,6 +105,7 @@ pub fn scale(c: f64, a: Complex64) -> Complex64
 }
 
 // Each part times c.
+#[tactic(auto, unfolding(amplitudelaws::specs::Arithmetic::scaled))]
 pub fn scaled(a: Complex64, c: f64) -> Complex64
     ensures { complex_of result ≡ formula.scaled binary (complex_of a) c }
 {
@@ -121,6 +116,7 @@ pub fn scaled(a: Complex64, c: f64) -> Complex64
 }
 
 // c p + u q, each sum from left to right.
+#[tactic(auto, unfolding(amplitudelaws::specs::Arithmetic::mixed))]
 pub fn mixed(c: f64, u: Complex64, p: Complex64, q: Complex64) -> Complex64
     ensures { complex_of result ≡ formula.mixed binary c (complex_of u) (complex_of p) (complex_of q) }
 {

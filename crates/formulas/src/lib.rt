@@ -11,6 +11,7 @@ ghost use Rattle.complex.specs.Complex.{complex_of};
 use complex::Complex64;
 
 // A rotation with x = 0: by itself.
+#[tactic(auto, unfolding(amplitudelaws::specs::Rotation::rotated_alone))]
 pub fn rotated_alone(c: f64, t: Complex64, p: Complex64) -> Complex64
     ensures { complex_of result ≡ rotated_alone float.binary c (complex_of t) (complex_of p) }
 {
@@ -22,6 +23,7 @@ pub fn rotated_alone(c: f64, t: Complex64, p: Complex64) -> Complex64
 }
 
 // A rotation with z = 0: with its partner q.
+#[tactic(auto, unfolding(amplitudelaws::specs::Rotation::rotated_with))]
 pub fn rotated_with(c: f64, t: Complex64, p: Complex64, q: Complex64) -> Complex64
     ensures { complex_of result ≡ rotated_with float.binary c (complex_of t) (complex_of p) (complex_of q) }
 {
@@ -32,6 +34,7 @@ pub fn rotated_with(c: f64, t: Complex64, p: Complex64, q: Complex64) -> Complex
 }
 
 // The square of its length.
+#[tactic(auto, unfolding(amplitudelaws::specs::Probability::squared))]
 pub fn squared(a: Complex64) -> f64
     ensures { result ≡ sums.squared float.binary (complex_of a) }
 {
@@ -39,14 +42,9 @@ pub fn squared(a: Complex64) -> f64
 }
 
 // Below 0 gives 0, above 1 gives 1; a NaN is neither and stays.
+#[tactic(auto, unfolding(amplitudelaws::specs::Binary::clamped))]
 pub fn clamped(p: f64) -> f64
     ensures { result ≡ float.clamped p }
 {
-    if p < 0.0 {
-        return 0.0;
-    }
-    if 1.0 < p {
-        return 1.0;
-    }
-    p
+    p.clamp(0.0, 1.0)
 }

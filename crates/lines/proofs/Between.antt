@@ -5,7 +5,8 @@ use Prim.Native.Nat.{ℕ, ◌+◌, ◌≤◌, ◌<◌}
 use native.Mathlib.Omega.{arith}
 use lib.ListN.{length, length-append}
 use lib.Seq.{sets}
-use Rattle.paulitext.specs.declared.TextAnswer.TheVariants as text
+use Rattle.std.specs.Prelude.{Ok, Err}
+use Rattle.refusals.specs.declared.Row.TheVariants as row
 use Rattle.lines.specs.Calls.{Lined}
 use Rattle.lines.specs.Pieces.{sets_next, lined_short, lined_all}
 
@@ -16,12 +17,12 @@ module _ (label number tail out : List ℕ) (count : ℕ) (l : count ≡ length 
   size : length label + count + length tail ≡ length whole
   size = omega (arith, l, length-append label (number ++ tail), length-append number tail)
 
-  pub number_short : length out < length label + count + length tail → Lined whole out (text.Refused 16) out
+  pub number_short : length out < length label + count + length tail → Lined whole out (Err row.OutputTooShort) out
   number_short h = lined_short whole out (omega (arith, size, h))
 
   pub number_all : (a b : ℕ) (x y z : List ℕ) → length label + count + length tail ≤ length out
       → x ≡ sets out 0 label → a ≡ 0 + length label → y ≡ sets x a number → b ≡ a + length number → z ≡ sets y b tail
-      → Lined whole out (text.Length (length label + count + length tail)) z
+      → Lined whole out (Ok (length label + count + length tail)) z
   number_all a b x y z h w e v f u =
       lined_all whole out (length label + count + length tail) z size (omega (arith, size, h))
       (sets_next out 0 a label (number ++ tail) x z w e (sets_next x a b number tail y z v f u))

@@ -1,16 +1,13 @@
 -- The digits that `io` writes are those of a line.
-use mathlib.Core.Path.{◌≡◌, refl, sym, ap, ◌∙◌, subst}
-use mathlib.Core.Bool.{Bool, true, false, cond}
+use mathlib.Core.Path.{◌≡◌, sym, ap, ◌∙◌, subst}
+use mathlib.Core.Bool.{Bool, cond}
 use mathlib.Core.List.{List, [], ◌∷◌, ◌++◌}
 use Prim.Native.Nat.{ℕ, zero, suc, ◌-◌, ◌/◌, ◌%◌, ◌^◌, ◌≤◌, ◌<◌}
 use native.Mathlib.Omega.{arith}
 use native.Mathlib.Nat.{lt_of_not-le, pow-succ', pow-le-pow_right}
 use borrow.Author.Tests.{lt-ltb, le-ltb}
-use lib.Dec.{T}
-use lib.Ieee.{Float, nan, inf, fin, ne, eq, is_nan, to_bits, binary64}
-use lib.Ieee.Compare.{differs_from_itself}
 use Rattle.io.specs.Digits.{hex_digit_ascii, last_digits, IsDigitCount}
-use Rattle.lines.specs.Lines.{decimal_up_to, decimal, bits_of}
+use Rattle.lines.specs.Lines.{decimal_up_to, decimal}
 
 -- from the powers' bounds on n to those on n / 10
 upper : (n p : ℕ) → n < 10 ^ suc p → n / 10 < 10 ^ p
@@ -70,15 +67,3 @@ twenty n k h f = fewest_most 10 1 20 n k (omega arith) (omega arith) (omega (ari
 
 pub sixteen : (n k : ℕ) → n < 2 ^ 64 → IsDigitCount 16 16 n k → k ≡ 16
 sixteen n k h f = omega (arith, f.0, fewest_most 16 16 16 n k (omega arith) (omega arith) (omega (arith, h)) f)
-
--- ---- the bits of a float
-
-pub bits_nan : (x : Float) → ne x x ≡ true → 0x7ff8000000000000 ≡ bits_of x
-unfolding bits_of is_nan
-bits_nan x h = sym (ap bits_of (differs_from_itself x (subst T (sym h) tt)))
-
-pub bits_number : (x : Float) → ne x x ≡ false → to_bits binary64 x ≡ bits_of x
-unfolding bits_of is_nan ne eq
-bits_number nan h = absurd (subst T h tt)
-bits_number (inf s) h = refl
-bits_number (fin s m e) h = refl

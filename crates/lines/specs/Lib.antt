@@ -3,3 +3,4 @@ pub mod Calls
 pub mod Lengths
 pub mod Newlines
 pub mod Pieces
+pub mod Stored

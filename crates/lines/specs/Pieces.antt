@@ -1,5 +1,5 @@
 -- A text put together piece by piece in a buffer, and what writing a whole text answers.
-use Rattle.std.specs.Prelude.{◌≡◌, refl, List, [], ◌++◌, ℕ, ◌+◌, ◌-◌, ◌≤◌, ◌<◌, length, take}
+use Rattle.std.specs.Prelude.{◌≡◌, refl, List, [], ◌++◌, ℕ, ◌+◌, ◌-◌, ◌≤◌, ◌<◌, length, take, Result, Ok, Err}
 use Rattle.std.proofs.Math.Path.{sym, ap}
 use Rattle.std.proofs.Common.{◌∙◌, append-nil, append_assoc, zero-add, arith, lt-ltb, le-ltb, length-drop, drop_of_length-le, take_all, length-take-le, drop-drop, take_at, drop_at}
 use Rattle.std.proofs.Math.ListN.{drop}
@@ -9,9 +9,10 @@ use Rattle.answers.specs.Answer.{Answer, refuse}
 use Rattle.answers.specs.Answer.Answer.{accepted, refused}
 use Rattle.answers.specs.Row.{refused_accepted, accepted_same}
 use Rattle.answers.specs.Stores.{sets_sets}
-use Rattle.paulitext.specs.Calls.{buffer_after, text_answer_of}
-use Rattle.paulitext.specs.declared.TextAnswer.{TextAnswer}
-use Rattle.paulitext.specs.declared.TextAnswer.TheVariants as text
+use Rattle.paulitext.specs.Calls.{buffer_after}
+use Rattle.refusals.specs.declared.Row.{Row}
+use Rattle.refusals.specs.declared.Row.TheVariants as row
+use Rattle.refusals.specs.Refusal.{answer_of}
 use Rattle.lines.specs.Calls.{Lined, line_call}
 
 -- equal texts in two parts, the first of one length: both parts are equal
@@ -48,13 +49,13 @@ sets_whole out s e =
 -- ---- what writing a text answers
 
 module _ (line out : List ℕ) where
-  pub lined_short : length out < length line → Lined line out (text.Refused 16) out
+  pub lined_short : length out < length line → Lined line out (Err row.OutputTooShort) out
   unfolding line_call refuse buffer_after
   lined_short h =
       let call : line_call line out ≡ refused 16 = rw (lt-ltb (length out) (length line) h) in
       record { told = sym call; buffer = rw call }
 
-  pub lined_all : (len : ℕ) (left : List ℕ) → len ≡ length line → length line ≤ length out → left ≡ sets out 0 line → Lined line out (text.Length len) left
+  pub lined_all : (len : ℕ) (left : List ℕ) → len ≡ length line → length line ≤ length out → left ≡ sets out 0 line → Lined line out (Ok len) left
   unfolding line_call refuse buffer_after
   lined_all len left l h w =
       let call : line_call line out ≡ accepted (length line) = rw (le-ltb (length out) (length line) h) in
@@ -64,21 +65,21 @@ module _ (line out : List ℕ) where
       }
 
   -- a text that fits is never refused
-  pub lined_fits : (r : TextAnswer) (left : List ℕ) → length line ≤ length out → Lined line out r left → (r ≡ text.Length (length line)) × (left ≡ sets out 0 line)
+  pub lined_fits : (r : Result ℕ Row) (left : List ℕ) → length line ≤ length out → Lined line out r left → (r ≡ Ok (length line)) × (left ≡ sets out 0 line)
   unfolding line_call refuse buffer_after
   lined_fits r left h l =
       let call : line_call line out ≡ accepted (length line) = rw (le-ltb (length out) (length line) h) in
       let put : left ≡ line ++ drop (length line) out = l.buffer ∙ ap (λ (a : Answer ℕ). buffer_after a line out) call in
       (answer r (l.told ∙ call), put ∙ ap (λ (n : ℕ). line ++ drop n out) (sym (zero-add (length line))) ∙ sym (sets-eq line out 0 (omega (arith, h))))
     where
-      answer : (r : TextAnswer) → text_answer_of r ≡ accepted (length line) → r ≡ text.Length (length line)
-      answer (text.Length n) e = ap text.Length (accepted_same e)
-      answer (text.Refused n) e = absurd (refused_accepted e)
+      answer : (r : Result ℕ Row) → answer_of (λ n. n) r ≡ accepted (length line) → r ≡ Ok (length line)
+      answer (Ok n) e = ap Ok (accepted_same e)
+      answer (Err n) e = absurd (refused_accepted e)
 
 -- a text written to the start of what stands from `at` on, where it fits
-pub lined_at : (line out : List ℕ) (at : ℕ) (r : TextAnswer) (left : List ℕ) → at + length line ≤ length out
+pub lined_at : (line out : List ℕ) (at : ℕ) (r : Result ℕ Row) (left : List ℕ) → at + length line ≤ length out
     → Lined line (take (length out - at) (drop at out)) r left
-    → (r ≡ text.Length (length line)) × (take at out ++ (left ++ drop (length out - at) (drop at out)) ≡ sets out at line)
+    → (r ≡ Ok (length line)) × (take at out ++ (left ++ drop (length out - at) (drop at out)) ≡ sets out at line)
 lined_at line out at r left h l =
     let k : ℕ = length out - at in
     let part : List ℕ = take k (drop at out) in
@@ -90,8 +91,8 @@ lined_at line out at r left h l =
 
 -- ---- an answer that is a length is that one, and no refusal
 
-pub length_same : {r : TextAnswer} {n m : ℕ} → r ≡ text.Length n → r ≡ text.Length m → m ≡ n
+pub length_same : {r : Result ℕ Row} {n m : ℕ} → r ≡ Ok n → r ≡ Ok m → m ≡ n
 length_same p q = cc
 
-pub length_refused : {r : TextAnswer} {n m : ℕ} → r ≡ text.Length n → r ≡ text.Refused m → ⊥
-length_refused p q = let z : ◌≡◌ {A = ℕ} 0 1 = cc in omega arith
+pub length_refused : {r : Result ℕ Row} {n : ℕ} {e : Row} → r ≡ Ok n → r ≡ Err e → ⊥
+length_refused p q = cc

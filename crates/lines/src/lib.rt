@@ -1,5 +1,6 @@
 // The lines that `bench` prints, each written to the start of a lent buffer: the answer is its length,
-// or the refusal 16 where the buffer is too short, which is then left as it was.
+// or row 16 where the buffer is too short, which is then left as it was.
+// A piece of a line is put at a place, and the answer is where it ends: a struct of both would say no more than `Stored`.
 #![tactic(auto)]
 
 ghost use Rattle.std.specs.Prelude.{◌≡◌, ◌++◌, ◌+◌, ◌≤◌, length};
@@ -7,28 +8,31 @@ ghost use Rattle.std.proofs.lemmas.List.Edits.{sets};
 ghost use Rattle.lines.specs.Calls.{Lined};
 ghost use Rattle.lines.specs.Lines.{decimal, bits_of, listed_bits, width_line, amplitude_line, refusal_line};
 ghost use Rattle.lines.specs.Lines.{part as line_part};
+ghost use Rattle.lines.specs.Stored.{Stored};
 
-use paulitext::TextAnswer;
+use refusals::Row;
 
 // The bits of a float, every NaN having the same.
+#[tactic(auto, unfolding(crate::specs::Lines::bits_of))]
 pub fn bits(x: f64) -> u64
     ensures { result ≡ bits_of x }
 {
-    if x != x {
+    if x.is_nan() {
         return 0x7ff8000000000000;
     }
-    f64::to_bits(x)
+    x.to_bits()
 }
 
 // `qubits` and the width.
-pub fn qubits(width: usize, out: &mut [u8]) -> TextAnswer
+#[tactic(auto, unfolding(crate::specs::Lines::width_line))]
+pub fn qubits(width: usize, out: &mut [u8]) -> Result<usize, Row>
     ensures { Lined (width_line width) out.old result out.new }
 {
     line(b"qubits ", width as u64, b"\n", out)
 }
 
 // The basis, and the listed bits of the two parts of its amplitude.
-pub fn amplitude(basis: usize, re: f64, im: f64, out: &mut [u8]) -> TextAnswer
+pub fn amplitude(basis: usize, re: f64, im: f64, out: &mut [u8]) -> Result<usize, Row>
     ensures { Lined (amplitude_line basis re im) out.old result out.new }
 {
     let mut tail = [0u8; 35];
@@ -39,10 +43,11 @@ pub fn amplitude(basis: usize, re: f64, im: f64, out: &mut [u8]) -> TextAnswer
 }
 
 // `refused` and the number.
-pub fn refused(number: u8, out: &mut [u8]) -> TextAnswer
+#[tactic(auto, unfolding(crate::specs::Lines::refusal_line))]
+pub fn refused(number: u8, out: &mut [u8]) -> Result<usize, Row>
     ensures { Lined (refusal_line number) out.old result out.new }
 {
-    line(b"refused ", number as u64, b"\n", out)
+    line(b"refused ", u64::from(number), b"\n", out)
 }
 
 // How many digits a number has in decimal.
@@ -54,7 +59,7 @@ pub fn decimal_length(n: u64) -> usize
 }
 
 // A number in decimal between two texts.
-fn line(label: &[u8], n: u64, tail: &[u8], out: &mut [u8]) -> TextAnswer
+fn line(label: &[u8], n: u64, tail: &[u8], out: &mut [u8]) -> Result<usize, Row>
     requires { (length label.now ≤ 8) × (length tail.now ≤ 35) }
     ensures { Lined (label.now ++ (decimal n ++ tail.now)) out.old result out.new }
 {
@@ -62,12 +67,12 @@ fn line(label: &[u8], n: u64, tail: &[u8], out: &mut [u8]) -> TextAnswer
     let count = io::decimal(n, &mut digits);
     let len = label.len() + count + tail.len();
     if out.len() < len {
-        return TextAnswer::Refused(16);
+        return Err(Row::OutputTooShort);
     }
     let number = put(label, 0, out);
     let rest = put(&digits[..count], number, out);
     put(tail, rest, out);
-    TextAnswer::Length(len)
+    Ok(len)
 }
 
 // The bits that are listed: 0 for either zero. Amplitudes in memory keep theirs.
@@ -93,10 +98,19 @@ fn part(x: f64, at: usize, out: &mut [u8]) -> usize
 }
 
 // Puts a text at `at`, and answers where it ends.
-fn put(text: &[u8], at: usize, out: &mut [u8]) -> usize
+pub fn put(text: &[u8], at: usize, out: &mut [u8]) -> usize
     requires { at + length text.now ≤ length out.old }
-    ensures value { result ≡ at + length text.now }
-    ensures out_after { out.new ≡ sets out.old at text.now }
+    ensures { Stored text.now at out.old result out.new }
 {
     at + octets::copy(text, &mut out[at..])
+}
+
+// So a number in decimal.
+pub fn put_number(n: u64, at: usize, out: &mut [u8]) -> usize
+    requires { at + length (decimal n) ≤ length out.old }
+    ensures { Stored (decimal n) at out.old result out.new }
+{
+    let mut digits = [0u8; 20];
+    let count = io::decimal(n, &mut digits);
+    put(&digits[..count], at, out)
 }

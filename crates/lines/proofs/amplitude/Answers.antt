@@ -11,7 +11,6 @@ use Rattle.lines.specs.Lines.{decimal, part, amplitude_line}
 use Rattle.lines.specs.Calls.{Lined}
 use Rattle.lines.specs.Lengths.{part_length}
 use Rattle.lines.specs.Pieces.{sets_next, sets_whole}
-use borrow.Author.Rules.{rules}
 use Rattle.lines.proofs.amplitude.Goals as goal
 
 amplitude_tail : (zeros : List ℕ) → length zeros ≡ 35 → (re im : Float) (second end : ℕ) (x y z : List ℕ)
@@ -33,5 +32,5 @@ returns c =
     let last = c.put in
     let line = c.line in
     let tail = amplitude_tail (replicate 35 0) refl c.args.re c.args.im first.result second.result first.new.out second.new.out last.new.out
-    first.ensures.out_after first.ensures.value second.ensures.out_after second.ensures.value last.ensures.out_after in
+    first.ensures.out_after first.ensures.value second.ensures.out_after second.ensures.value last.ensures.stands in
     subst (λ (t : List ℕ). Lined (decimal c.args.basis ++ t) out line.result line.new.out) tail line.ensures

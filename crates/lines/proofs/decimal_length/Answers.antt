@@ -2,7 +2,6 @@
 use mathlib.Core.Path.{ap, ◌∙◌}
 use lib.ListN.{length}
 use Rattle.lines.proofs.Digits.{decimal_digits}
-use borrow.Author.Rules.{rules}
 use Rattle.lines.proofs.decimal_length.Goals as goal
 
 pub returns : goal.returns

@@ -8,7 +8,6 @@ use lib.Seq.{sets}
 use Rattle.lines.specs.Lines.{decimal}
 use Rattle.lines.proofs.Digits.{decimal_digits, twenty}
 use Rattle.lines.proofs.Between.{number_short, number_all}
-use borrow.Author.Rules.{rules}
 use Rattle.lines.proofs.line.Goals as goal
 
 pub overflow_add-len : goal.overflow_add-len
@@ -37,6 +36,6 @@ returns c =
     number_all c.args.label.now (decimal c.args.n) c.args.tail.now c.args.out.now d.result (d.ensures.in_bounds.1 ∙ ap length q)
     first.result second.result x second.new.out third.new.out
     long
-    first.ensures.out_after first.ensures.value
-    (second.ensures.out_after ∙ ap (sets x first.result) q) (second.ensures.value ∙ ap (λ (l : List ℕ). first.result + length l) q)
-    third.ensures.out_after
+    first.ensures.stands first.ensures.ends
+    (second.ensures.stands ∙ ap (sets x first.result) q) (second.ensures.ends ∙ ap (λ (l : List ℕ). first.result + length l) q)
+    third.ensures.stands

@@ -6,7 +6,6 @@ use lib.Ieee.{Float, fin, eq, of_bits}
 use Rattle.floatlaws.specs.Same.{is_zero}
 use Rattle.floatlaws.proofs.Zero.{equals_zero}
 use Rattle.lines.specs.Lines.{bits_of, listed_bits}
-use borrow.Author.Rules.{rules}
 use Rattle.lines.proofs.listed_bits.Goals as goal
 
 zero_listed : (x : Float) → eq x (fin false 0 (pos 0)) ≡ true → 0 ≡ listed_bits x

@@ -9,7 +9,6 @@ use Rattle.io.specs.Digits.{last_digits}
 use Rattle.lines.specs.Lines.{part, listed_bits}
 use Rattle.lines.proofs.Digits.{sixteen}
 use Rattle.lines.specs.Pieces.{sets_next}
-use borrow.Author.Rules.{rules}
 use Rattle.lines.proofs.part.Goals as goal
 
 pub put-requires : goal.put-requires
@@ -19,8 +18,8 @@ put-requires c =
     omega (
       arith,
       c.requires,
-      first.ensures.value,
-      ap length first.ensures.out_after ∙ length-sets c.args.out.now c.args.at (32 ∷ []),
+      first.ensures.ends,
+      ap length first.ensures.stands ∙ length-sets c.args.out.now c.args.at (32 ∷ []),
       h.ensures.in_bounds.1,
       sixteen c.listed_bits.result h.result c.listed_bits.type_inv h.ensures.len,
     )
@@ -35,7 +34,7 @@ returns c =
     let x : List ℕ = first.new.out in
     let count : h.result ≡ 16 = sixteen b.result h.result b.type_inv h.ensures.len in
     let q : take h.result h.new.out ≡ last_digits 16 16 (listed_bits c.args.x) = h.ensures.digits ∙ ap₂ (λ (k n : ℕ). last_digits 16 k n) count b.ensures in record {
-      value = omega (arith, first.ensures.value, second.ensures.value, h.ensures.in_bounds.1, count);
+      value = omega (arith, first.ensures.ends, second.ensures.ends, h.ensures.in_bounds.1, count);
       out_after = sets_next c.args.out.now c.args.at first.result (32 ∷ []) (last_digits 16 16 (listed_bits c.args.x)) x second.new.out
-          first.ensures.out_after first.ensures.value (second.ensures.out_after ∙ ap (sets x first.result) q);
+          first.ensures.stands first.ensures.ends (second.ensures.stands ∙ ap (sets x first.result) q);
     }

@@ -2,6 +2,8 @@
 // rounded by itself, in the order of the formulas; nothing is fused.
 #![tactic(auto)]
 
+pub mod amplitude;
+
 ghost use Rattle.std.specs.Prelude.{◌≡◌, ◌%◌};
 ghost use Rattle.bitlaws.specs.Digit.{bit_of};
 ghost use Rattle.amplitudelaws.specs.Arithmetic as formula;

@@ -9,28 +9,34 @@ use native.Mathlib.Numerals.{add-one}
 use native.Mathlib.Omega.{arith}
 use lib.ListN.{length, get_or, drop, set, drop_of_length-le}
 use lib.Seq.{drop-cons, paste, paste-zero, paste-suc, take-length}
-use borrow.Author.Tests.{le-ltb}
-use Rattle.answers.specs.Answer.{refuse, value_or}
+use borrow.Author.Tests.{le-ltb, ltb-false}
+use Rattle.answers.specs.Answer.{refuse}
 use Rattle.answers.specs.Answer.Answer.{accepted, refused, refused_at}
 use Rattle.paulilaws.specs.Pauli.{Pauli, fits, identity, most_qubits}
 use Rattle.paulilaws.specs.Letter.{Letter, letter_at, with_letter}
 use Rattle.paulilaws.specs.Fitting.{Admitted, identity_fitting, letter_fitting}
 use Rattle.paulilaws.proofs.Fitting.{admitted_fits}
+use Rattle.answers.specs.Row.{row}
+use Rattle.refusals.specs.declared.Row.{Row}
+use Rattle.refusals.specs.Refusal.{number_of}
+use lib.Dec.{ltb}
+use Rattle.paulis.proofs.Told.{row_passes, refuse_some, refuse_none}
 use Rattle.paulis.specs.Calls.{on_pauli, identity_call, set_call, get_call}
 use Rattle.paulis.specs.Rows.{a_qubit}
-use Rattle.paulis.specs.Strings.{pauli_of, Made}
-use Rattle.paulis.specs.declared.PauliAnswer.{PauliAnswer}
-use Rattle.paulitext.specs.Text.{letter_of_byte, on_letter, reading}
+use Rattle.std.specs.Prelude as code
+use Rattle.paulis.specs.declared.Pauli.{Pauli as Single}
+use Rattle.paulis.specs.Strings.{pauli_letter_of}
+use Rattle.paulitext.specs.Text.{letter_of_byte, letter_read, on_letter, reading}
+use Rattle.paulitext.specs.Calls.{read_call}
 
--- ---- what a byte read as a letter tells
+-- ---- what reading a byte tells
 
-pub letter_some : {o : Option Letter} {l : Letter} → accepted l ≡ on_letter o (refused 2) accepted → o ≡ some l
-letter_some {o = none} e = absurd (let z : ◌≡◌ {A = ℕ} 0 1 = cc in omega arith)
-letter_some {o = some m} e = cc
+module _ (o : code.Option Single) (b : ℕ) (e : letter_read o ≡ letter_of_byte b) where
+  pub letter_some : {l : Single} → o ≡ code.Some l → letter_of_byte b ≡ some (pauli_letter_of l)
+  letter_some is = sym e ∙ ap letter_read is
 
-pub letter_none : {o : Option Letter} {n : ℕ} → refused n ≡ on_letter o (refused 2) accepted → o ≡ none
-letter_none {o = none} e = refl
-letter_none {o = some m} e = absurd (let z : ◌≡◌ {A = ℕ} 0 1 = cc in omega arith)
+  pub letter_none : o ≡ code.None → letter_of_byte b ≡ none
+  letter_none is = sym e ∙ ap letter_read is
 
 -- where the reading of s has come to: at q, with P read so far
 pub record Reached (s : List ℕ) (q : ℕ) (P : Pauli) : Type 0 where
@@ -65,23 +71,37 @@ module _ (s : List ℕ) (q : ℕ) (P : Pauli) (r : Reached s q P) where
 pub reached_start : (s : List ℕ) → length s ≤ most_qubits → Reached s 0 (identity (length s))
 reached_start s short = record { inside = omega arith; width = refl; admitted = record { fitting = identity_fitting (length s); width = short }; rest = refl }
 
+-- ---- the length, looked at first
+
+module _ (s : List ℕ) where
+  pub read_long : (r : Row) → number_of r ≡ row (ltb 256 (length s)) 1 0 → read_call s ≡ refused (number_of r)
+  unfolding read_call
+  read_long r e = refuse_some (ltb 256 (length s)) 1 (reading 0 s (identity (length s))) r e
+
+  pub read_short : 0 ≡ row (ltb 256 (length s)) 1 0 → read_call s ≡ reading 0 s (identity (length s))
+  unfolding read_call
+  read_short e = refuse_none (ltb 256 (length s)) 1 (reading 0 s (identity (length s))) (omega arith) e
+
+  pub short : 0 ≡ row (ltb 256 (length s)) 1 0 → length s ≤ 256
+  short e = ltb-false 256 (length s) (row_passes (ltb 256 (length s)) 1 (omega arith) e)
+
 -- ---- what asking for a Pauli's value tells
 
 module _ {A : Type 0} (P : Pauli) (v : A) where
-  pub told_value : {w : A} → accepted w ≡ on_pauli P (accepted v) → (fits P ≡ true) × (w ≡ v)
+  pub value_told : {w : A} → accepted w ≡ on_pauli P (accepted v) → (fits P ≡ true) × (w ≡ v)
   unfolding on_pauli refuse
-  told_value {w} e = go (fits P) refl
+  value_told {w} e = go (fits P) refl
     where
       go : (b : Bool) → fits P ≡ b → (fits P ≡ true) × (w ≡ v)
       go true f = (f, (let h : accepted w ≡ accepted v = e ∙ rw f in cc))
       go false f = absurd (let h : accepted w ≡ refused 3 = e ∙ rw f in let z : ◌≡◌ {A = ℕ} 0 1 = cc in omega arith)
 
-  pub told_refused : {n : ℕ} → refused n ≡ on_pauli P (accepted v) → fits P ≡ false
+  pub refused_told : {n : ℕ} → refused n ≡ on_pauli P (accepted v) → (fits P ≡ false) × (n ≡ 3)
   unfolding on_pauli refuse
-  told_refused {n} e = go (fits P) refl
+  refused_told {n} e = go (fits P) refl
     where
-      go : (b : Bool) → fits P ≡ b → fits P ≡ false
-      go false f = f
+      go : (b : Bool) → fits P ≡ b → (fits P ≡ false) × (n ≡ 3)
+      go false f = (f, (let h : refused n ≡ refused 3 = e ∙ rw f in cc))
       go true f = absurd (let h : refused n ≡ accepted v = e ∙ rw f in let z : ◌≡◌ {A = ℕ} 0 1 = cc in omega arith)
 
 -- ---- writing a text to the start of a buffer
@@ -109,18 +129,15 @@ module _ (text out : List ℕ) where
       ∙ ap (λ (t : List ℕ). t ++ drop (0 + length text) out) (take-length text)
       ∙ ap (λ (m : ℕ). text ++ drop m out) (zero-add (length text))
 
--- ---- what the calls on Paulis hand back where no row refuses them
+-- ---- what the calls on Paulis answer where no row refuses them
 
-module _ (r : PauliAnswer) where
-  pub made_identity : (n : ℕ) → n ≤ 256 → Made r (identity_call n) → pauli_of r.pauli ≡ identity n
-  unfolding identity_call refuse value_or
-  made_identity n h m =
-      let passed : identity_call n ≡ accepted (identity n) = rw (le-ltb 256 n h) in
-      m.beside ∙ ap (value_or (identity 0)) passed
+pub started : (n : ℕ) → n ≤ 256 → identity_call n ≡ accepted (identity n)
+unfolding identity_call refuse
+started n h = rw (le-ltb 256 n h)
 
-  pub made_set : (P : Pauli) (q : ℕ) (l : Letter) → Admitted P → q < P.n → Made r (set_call P q l) → pauli_of r.pauli ≡ with_letter q l P
-  unfolding set_call value_or
-  made_set P q l a h m = m.beside ∙ ap (value_or (identity 0)) (a_qubit P q (accepted (with_letter q l P)) {t = true} (sym (admitted_fits P a)) refl h)
+pub lettered : (P : Pauli) (q : ℕ) (l : Letter) → Admitted P → q < P.n → set_call P q l ≡ accepted (with_letter q l P)
+unfolding set_call
+lettered P q l a h = a_qubit P q (accepted (with_letter q l P)) {t = true} (sym (admitted_fits P a)) refl h
 
 pub got_letter : (P : Pauli) (q : ℕ) → fits P ≡ true → q < P.n → get_call P q ≡ accepted (letter_at q P)
 unfolding get_call

@@ -5,6 +5,9 @@ use Rattle.answers.specs.Answer.{Answer}
 use Rattle.answers.specs.Answer.Answer.{accepted, refused_at}
 use Rattle.paulilaws.specs.Pauli.{Pauli, coefficient}
 use Rattle.paulilaws.specs.Letter.{Letter, letter_at, with_letter}
+use Rattle.std.specs.Prelude as code
+use Rattle.paulis.specs.declared.Pauli.{Pauli as Single}
+use Rattle.paulis.specs.Strings.{pauli_letter_of}
 
 -- I, i and _; X and x; Y and y; Z and z
 unfoldable pub letter_of_byte : ℕ → Option Letter
@@ -13,6 +16,11 @@ letter_of_byte b =
     (cond (eqb b 88 || eqb b 120) (some Letter.X)
     (cond (eqb b 89 || eqb b 121) (some Letter.Y)
     (cond (eqb b 90 || eqb b 122) (some Letter.Z) none)))
+
+-- the letter that the code reads, if it reads one
+abbrev pub letter_read : code.Option Single → Option Letter
+letter_read (code.Some l) = some (pauli_letter_of l)
+letter_read code.None = none
 
 abbrev pub on_letter : {A : Type 0} → Option Letter → A → (Letter → A) → A
 on_letter none other f = other

@@ -1,22 +1,21 @@
 // The bytes of a Pauli's text.
 ghost use Rattle.std.specs.Prelude.{◌≡◌, true, ◌++◌, ◌+◌, ◌<◌, ◌≤◌, max, length, get_or, drop};
-ghost use Rattle.answers.specs.Answer.{Answer};
 ghost use Rattle.paulilaws.specs.Pauli.{fits};
-ghost use Rattle.paulis.specs.Strings.{pauli_of, letter_answer_of, pauli_letter_of};
-ghost use Rattle.paulitext.specs.Text.{letter_of_byte, on_letter, prefix, byte_of, body};
+ghost use Rattle.paulis.specs.Strings.{pauli_of, pauli_letter_of};
+ghost use Rattle.paulitext.specs.Text.{letter_of_byte, letter_read, prefix, byte_of, body};
 
-use paulis::{LetterAnswer, Pauli, PauliString};
+use paulis::{Pauli, PauliString};
 
-// The letter that a byte stands for, refused by 2 where it stands for none.
-pub(crate) fn letter(byte: u8) -> LetterAnswer
-    ensures { letter_answer_of result ≡ on_letter (letter_of_byte byte) (Answer.refused 2) Answer.accepted }
+// The letter that a byte stands for, if it stands for one.
+pub(crate) fn letter(byte: u8) -> Option<Pauli>
+    ensures { letter_read result ≡ letter_of_byte byte }
 {
     match byte {
-        b'I' | b'i' | b'_' => LetterAnswer::Letter(Pauli::I),
-        b'X' | b'x' => LetterAnswer::Letter(Pauli::X),
-        b'Y' | b'y' => LetterAnswer::Letter(Pauli::Y),
-        b'Z' | b'z' => LetterAnswer::Letter(Pauli::Z),
-        _ => LetterAnswer::Refused(2),
+        b'I' | b'i' | b'_' => Some(Pauli::I),
+        b'X' | b'x' => Some(Pauli::X),
+        b'Y' | b'y' => Some(Pauli::Y),
+        b'Z' | b'z' => Some(Pauli::Z),
+        _ => None,
     }
 }
 
@@ -82,11 +81,7 @@ fn at(pauli: PauliString, coefficient: u8, i: usize) -> u8
     if pauli.nqubits == 0 {
         return b'I';
     }
-    // The qubit is below the width, so `get` never refuses.
-    match pauli.get(i - before) {
-        LetterAnswer::Letter(letter) => of_letter(letter),
-        LetterAnswer::Refused(_) => b'I',
-    }
+    of_letter(pauli.get(i - before).unwrap())
 }
 
 // Writes the first `len` bytes of the text, which are all of it.
@@ -97,9 +92,7 @@ pub(crate) fn write(pauli: PauliString, coefficient: u8, len: usize, out: &mut [
     ensures { let text = prefix coefficient ++ body pauli.nqubits (pauli_of pauli) in
         out.new ≡ text ++ drop len out.old }
 {
-    let mut i = 0;
-    while i < len {
+    for i in 0..len {
         out[i] = at(pauli, coefficient, i);
-        i += 1;
     }
 }

@@ -1,61 +1,61 @@
--- The loop's invariant: reading the rest into the Pauli so far is reading the whole text (Walk.Reached). The measure is what is left.
-use mathlib.Core.Path.{◌≡◌, sym, ap, ◌∙◌, subst}
-use Prim.Native.Nat.{◌+◌, ◌-◌, ◌<◌}
-use native.Mathlib.Omega.{arith}
-use borrow.Author.Tests.{lt-ltb, le-ltb}
-use lib.ListN.{length, get_or}
-use mathlib.Core.Option.{none, some}
-use Rattle.answers.specs.Answer.{refuse}
+-- Each return is one of reading's; neither call on a Pauli is refused.
+use Rattle.std.proofs.Common.{◌≡◌, ◌+◌, get_or, sym, ap, ◌∙◌, subst, arith}
+use Rattle.std.proofs.Math.Option.{none, some}
+use Rattle.answers.specs.Answer.Answer.{refused_at}
+use Rattle.refusals.specs.declared.Row.TheVariants as row
+use Rattle.refusals.specs.declared.RowAt.{RowAt}
+use Rattle.refusals.specs.Refusal.{number_of}
+use Rattle.refusals.proofs.Asked.{refused_whole, refused_there}
 use Rattle.paulilaws.specs.Pauli.{Pauli}
-use Rattle.paulis.specs.Strings.{pauli_of, letter_answer_of, pauli_letter_of}
-use Rattle.paulitext.specs.Calls.{read_call}
-use Rattle.paulitext.proofs.Walk.{Reached, letter_some, letter_none, reached_start, reached_end, reached_none, reached_next, made_identity, made_set}
+use Rattle.paulis.specs.Strings.{pauli_of, pauli_letter_of}
+use Rattle.paulis.proofs.Told.{told_ok, told_value}
 use Rattle.paulitext.specs.Text.{letter_of_byte}
-use borrow.Author.Rules.{rules}
+use Rattle.paulitext.proofs.Walk.{Reached, letter_some, letter_none, reached_start, reached_end, reached_none, reached_next, started, lettered, short, read_long, read_short}
 use Rattle.paulitext.proofs.pauli_string.Goals as goal
 
-pub returns-then-ops-gt-MOST_QUBITS : goal.returns-then-ops-gt-MOST_QUBITS
-unfolding read_call refuse
-returns-then-ops-gt-MOST_QUBITS c = rw (lt-ltb 256 (length c.args.ops.now) c.if-ops-gt-MOST_QUBITS.true) c.refused.ensures
+pub returns-in_err-refuse_if : goal.returns-in_err-refuse_if
+returns-in_err-refuse_if c =
+    refused_whole pauli_of _ c.in_err-refuse_if.field-0.0 c.from_residual.ensures.1
+    ∙ sym (read_long c.args.ops.now c.in_err-refuse_if.field-0.0 c.in_err-refuse_if.ensures)
+
+pub unwrap-pauli-requires : goal.unwrap-pauli-requires
+unwrap-pauli-requires c = told_ok pauli_of _ (c.pauli_identity.ensures ∙ started _ (short c.args.ops.now c.in_ok-refuse_if.ensures))
 
 pub loop-q-init : goal.loop-q-init
 loop-q-init c =
     let ops = c.args.ops.now in
-    let short = c.if-ops-gt-MOST_QUBITS.false in
-    subst (λ (P : Pauli). Reached ops 0 P) (sym (made_identity c.pauli_identity-start.result (length ops) short c.pauli_identity-start.ensures))
-    (reached_start ops short)
+    let fits = short ops c.in_ok-refuse_if.ensures in
+    let first = told_value pauli_of _ (c.pauli_identity.ensures ∙ started _ fits) c.unwrap-pauli.ensures in
+    subst (λ (P : Pauli). Reached ops 0 P) (sym first) (reached_start ops fits)
 
-pub bounds-ops-q : goal.bounds-ops-q
-bounds-ops-q c = omega arith
-
-pub returns-in_default : goal.returns-in_default
-unfolding read_call refuse
-returns-in_default c =
+pub returns-in_err-letter : goal.returns-in_err-letter
+returns-in_err-letter c =
     let l = c.loop-q in
     let ops = c.args.ops.now in
-    let short = c.if-ops-gt-MOST_QUBITS.false in
-    let bad : letter_of_byte (get_or ops l.q 0) ≡ none = letter_none (ap letter_answer_of (sym c.in_default.is) ∙ c.letter.ensures) in
-    rw (le-ltb 256 (length ops) short, reached_none ops l.q (pauli_of l.pauli) l.invariant c.loop-q-test.true bad) c.refused_at.ensures
+    let bad : letter_of_byte (get_or ops l.q 0) ≡ none = letter_none c.letter.result _ c.letter.ensures c.in_err-letter.ensures.ok_part in
+    let given = rw c.in_err-letter.ensures.ok_part at c.in_err-letter.ensures.value in
+    let there : c.in_err-letter.field-0.0 ≡ record { row = row.NoLetter; at = l.q } = cc in
+    refused_there pauli_of _ c.in_err-letter.field-0.0 c.from_residual-in_err-letter.ensures.1
+    ∙ ap (λ (p : RowAt). refused_at (number_of p.row) p.at) there
+    ∙ sym (read_short ops c.in_ok-refuse_if.ensures ∙ reached_none ops l.q (pauli_of l.pauli) l.invariant c.loop-q-test.true bad)
 
-pub overflow_add-q : goal.overflow_add-q
-overflow_add-q c = omega arith
-
-pub loop-q-smaller : goal.loop-q-smaller
-loop-q-smaller c = omega arith
+pub unwrap-pauli-requires-in-loop-q : goal.unwrap-pauli-requires-in-loop-q
+unwrap-pauli-requires-in-loop-q c =
+    let l = c.loop-q in
+    let P = pauli_of l.pauli in
+    told_ok pauli_of _ (c.set.ensures ∙ lettered P l.q _ l.invariant.admitted (omega (arith, l.invariant.width)))
 
 pub loop-q-preserved : goal.loop-q-preserved
 loop-q-preserved c =
     let l = c.loop-q in
-    let ops = c.args.ops.now in
-    let below : l.q < length ops = c.loop-q-test.true in
-    let good : letter_of_byte (get_or ops l.q 0) ≡ some (pauli_letter_of c.in-Letter.letter) = letter_some (ap letter_answer_of (sym c.in-Letter.is) ∙ c.letter.ensures) in
-    let next = made_set c.set-next.result (pauli_of l.pauli) l.q (pauli_letter_of c.in-Letter.letter) l.invariant.admitted (omega (arith, l.invariant.width)) c.set-next.ensures in
-    subst (λ (P : Pauli). Reached ops (l.q + 1) P) (sym next) (reached_next ops l.q (pauli_of l.pauli) l.invariant below (pauli_letter_of c.in-Letter.letter) good)
+    let P = pauli_of l.pauli in
+    let letter = c.in_ok-letter.letter in
+    let good : letter_of_byte (get_or c.args.ops.now l.q 0) ≡ some (pauli_letter_of letter) = letter_some c.letter.result _ c.letter.ensures c.in_ok-letter.ensures.ok_part in
+    let next = told_value pauli_of _ (c.set.ensures ∙ lettered P l.q _ l.invariant.admitted (omega (arith, l.invariant.width))) c.unwrap-pauli-in-loop-q.ensures in
+    subst (λ (P : Pauli). Reached c.args.ops.now (l.q + 1) P) (sym next) (reached_next c.args.ops.now l.q P l.invariant c.loop-q-test.true (pauli_letter_of letter) good)
 
 pub returns : goal.returns
-unfolding read_call refuse
 returns c =
     let l = c.loop-q in
     let ops = c.args.ops.now in
-    let short = c.if-ops-gt-MOST_QUBITS.false in
-    rw (le-ltb 256 (length ops) short, reached_end ops l.q (pauli_of l.pauli) l.invariant c.loop-q-test.false) c.done.ensures
+    sym (read_short ops c.in_ok-refuse_if.ensures ∙ reached_end ops l.q (pauli_of l.pauli) l.invariant c.loop-q-test.false)

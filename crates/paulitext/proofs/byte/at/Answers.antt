@@ -1,20 +1,15 @@
--- The byte lies in the prefix, is the `I` of no qubits, or is a qubit's letter.
-use mathlib.Core.Path.{◌≡◌, sym, ap, ◌∙◌}
-use Prim.Native.Nat.{ℕ, ◌-◌, ◌≤◌, ◌<◌}
-use native.Mathlib.Omega.{arith}
-use lib.ListN.{length}
-use Rattle.answers.specs.Answer.Answer.{accepted, refused}
-use Rattle.paulilaws.specs.Letter.{Letter, letter_at}
+-- The byte is the `I` of no qubits, or a qubit's letter.
+use Rattle.std.proofs.Common.{◌≡◌, ℕ, ◌-◌, ◌≤◌, ◌<◌, length, sym, ap, ◌∙◌, arith}
+use Rattle.answers.specs.Answer.Answer.{accepted}
+use Rattle.paulilaws.specs.Letter.{letter_at}
 use Rattle.paulis.specs.Calls.{get_call}
-use Rattle.paulis.specs.Strings.{pauli_of, letter_answer_of, pauli_letter_of}
+use Rattle.paulis.specs.Strings.{pauli_of, pauli_letter_of}
+use Rattle.paulis.proofs.Told.{told_ok, told_value}
 use Rattle.paulitext.specs.Text.{prefix, byte_of}
 use Rattle.paulitext.proofs.Bytes.{text_prefix, text_none, text_letter}
 use Rattle.paulitext.proofs.Walk.{got_letter}
-use borrow.Author.Rules.{rules}
 use Rattle.paulitext.proofs.byte.at.Goals as goal
-
-never : {n : ℕ} {l : Letter} → refused n ≡ accepted l → ⊥
-never e = let z : ◌≡◌ {A = ℕ} 0 1 = cc in omega arith
+use Rattle.paulitext.proofs.byte.at.Goals.{After-get}
 
 pub returns-then-i-before : goal.returns-then-i-before
 returns-then-i-before c =
@@ -28,26 +23,22 @@ returns-then-pauli-eq0 c =
     let h : length (prefix a.coefficient) ≤ a.i = omega (arith, c.prefix_len-before.ensures.0) in
     sym (text_none a.coefficient a.pauli.nqubits a.i (pauli_of a.pauli) h c.requires.i_in_bounds c.if-pauli-eq0.true)
 
-pub returns-in-Letter : goal.returns-in-Letter
-returns-in-Letter c =
-    let a = c.args in
-    let P = pauli_of a.pauli in
-    let len = c.prefix_len-before.ensures.0 in
-    let h : length (prefix a.coefficient) ≤ a.i = omega (arith, c.if-i-before.false) in
-    let q : ℕ = a.i - length (prefix a.coefficient) in
-    let inside : q < a.pauli.nqubits = omega (arith, c.requires.i_in_bounds, c.if-pauli-eq0.false) in
-    let told : accepted (pauli_letter_of c.in-Letter.letter) ≡ accepted (letter_at q P)
-    = ap letter_answer_of (sym c.in-Letter.is) ∙ c.get.ensures ∙ ap (λ (n : ℕ). get_call P (a.i - n)) len ∙ got_letter P q c.requires.pauli_value inside in
-    let same : pauli_letter_of c.in-Letter.letter ≡ letter_at q P = cc in
-    c.of_letter.ensures ∙ ap byte_of same ∙ sym (text_letter a.coefficient a.pauli.nqubits a.i P h inside)
+inside : (c : After-get) → c.args.i - length (prefix c.args.coefficient) < c.args.pauli.nqubits
+inside c = omega (arith, c.requires.i_in_bounds, c.if-pauli-eq0.false, c.prefix_len-before.ensures.0)
 
-pub returns-in-Refused : goal.returns-in-Refused
-returns-in-Refused c =
+got : (c : After-get) → get_call (pauli_of c.args.pauli) (c.args.i - c.prefix_len-before.result) ≡ accepted (letter_at (c.args.i - length (prefix c.args.coefficient)) (pauli_of c.args.pauli))
+got c =
+    let P = pauli_of c.args.pauli in
+    ap (λ (n : ℕ). get_call P (c.args.i - n)) c.prefix_len-before.ensures.0 ∙ got_letter P _ c.requires.pauli_value (inside c)
+
+pub unwrap-requires : goal.unwrap-requires
+unwrap-requires c = told_ok pauli_letter_of _ (c.get.ensures ∙ got c)
+
+pub returns : goal.returns
+returns c =
     let a = c.args in
     let P = pauli_of a.pauli in
-    let len = c.prefix_len-before.ensures.0 in
-    let q : ℕ = a.i - length (prefix a.coefficient) in
-    let inside : q < a.pauli.nqubits = omega (arith, c.requires.i_in_bounds, c.if-pauli-eq0.false, c.if-i-before.false) in
-    let told : refused c.in-Refused.field-0 ≡ accepted (letter_at q P)
-    = ap letter_answer_of (sym c.in-Refused.is) ∙ c.get.ensures ∙ ap (λ (n : ℕ). get_call P (a.i - n)) len ∙ got_letter P q c.requires.pauli_value inside in
-    absurd (never told)
+    let here = (goal.at.returns c).After-get in
+    let h : length (prefix a.coefficient) ≤ a.i = omega (arith, c.if-i-before.false, c.prefix_len-before.ensures.0) in
+    c.of_letter.ensures ∙ ap byte_of (told_value pauli_letter_of _ (c.get.ensures ∙ got here) c.unwrap.ensures)
+    ∙ sym (text_letter a.coefficient a.pauli.nqubits a.i P h (inside here))

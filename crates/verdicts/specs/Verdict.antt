@@ -1,8 +1,11 @@
 -- An answer as a caller in another language sees it: a verdict, and a value that is a fixed one beside a refusal.
-use Rattle.std.specs.Prelude.{◌≡◌}
+use Rattle.std.specs.Prelude.{◌≡◌, Result, Ok, Err}
 use Rattle.std.proofs.Common.{ap, sym, ◌∙◌, subst, arith}
 use Rattle.answers.specs.Answer.{Answer, value_or}
 use Rattle.answers.specs.Answer.Answer.{accepted, refused, refused_at}
+use Rattle.refusals.specs.declared.Refusal.{Refusal}
+use Rattle.refusals.specs.declared.Refusal.TheVariants.{Whole, At}
+use Rattle.refusals.specs.Refusal.{number_of}
 use Rattle.verdicts.specs.declared.Verdict.{Verdict}
 
 -- the verdict on each answer; no two answers that differ in number or place have the same
@@ -11,10 +14,20 @@ verdict_of (accepted a) = record { kind = 0; number = 0; place = 0 }
 verdict_of (refused n) = record { kind = 1; number = n; place = 0 }
 verdict_of (refused_at n at) = record { kind = 2; number = n; place = at }
 
+-- that on a refusal of the code
+abbrev pub verdict_on : Refusal → Verdict
+verdict_on (Whole r) = record { kind = 1; number = number_of r; place = 0 }
+verdict_on (At p) = record { kind = 2; number = number_of p.row; place = p.at }
+
 -- the answer as it is seen: its verdict v and its value a, which is `other` beside a refusal
 pub record Seen {A : Type 0} (v : Verdict) (a other : A) (answer : Answer A) : Type 0 where
   pub verdict : v ≡ verdict_of answer
   pub value : a ≡ value_or other answer
+
+-- the same of a result of the code, whose value means what `value` says; On says which verdict a refusal has
+pub record ResultSeen {A B E : Type 0} (On : E → Verdict → Type 0) (value : A → B) (v : Verdict) (b other : B) (answer : Result A E) : Type 0 where
+  pub accepted : (a : A) → answer ≡ Ok a → (v ≡ record { kind = 0; number = 0; place = 0 }) × (b ≡ value a)
+  pub refused : (e : E) → answer ≡ Err e → On e v × (b ≡ other)
 
 -- what is seen of an answer is seen of its equal
 pub seen_as : {A : Type 0} {v : Verdict} {a other : A} {answer same : Answer A} → Seen v a other answer → answer ≡ same → Seen v a other same

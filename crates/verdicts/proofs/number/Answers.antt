@@ -1,7 +1,0 @@
-use Rattle.answers.specs.Answer.{value_or}
-use borrow.Author.Rules.{rules}
-use Rattle.verdicts.proofs.number.Goals as goal
-
-pub returns : goal.returns
-unfolding value_or
-returns c = record { verdict = cc; value = cc }

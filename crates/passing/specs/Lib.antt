@@ -1,2 +1,3 @@
-pub mod Answer
+pub mod Meaning
+pub mod Unrefused
 pub mod Accepted

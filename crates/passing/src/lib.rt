@@ -8,37 +8,36 @@ mod suited;
 ghost use Rattle.std.specs.Prelude.{◌≡◌};
 ghost use Rattle.activepauli.specs.Active.{active_of};
 ghost use Rattle.framelaws.specs.PassRow.{placed_row, past_call};
+ghost use Rattle.refusals.specs.Refusal.{answer_of, row_of};
 ghost use Rattle.steps.specs.Meaning.{step_of};
-ghost use Rattle.passing.specs.Answer.{pass_answer_of};
+ghost use Rattle.passing.specs.Meaning.{passage_of};
 
 use activepauli::ActivePauli;
+use refusals::{Row, refuse_if};
 use steps::Step;
 
-// The step that the Pauli leaves behind it and the Pauli then; or 3, 4 or 10.
+// The step that the Pauli leaves behind it, and the Pauli then.
 #[derive(Clone, Copy)]
-pub enum PassAnswer {
-    Past(Step, ActivePauli),
-    Refused(u8),
+pub struct Passage {
+    pub step: Step,
+    pub pauli: ActivePauli,
 }
 
-pub fn past(pauli: ActivePauli, step: Step) -> PassAnswer
-    ensures { pass_answer_of result ≡ past_call (active_of pauli) (step_of step) }
+// Past the step; or 3, 4 or 10.
+pub fn past(pauli: ActivePauli, step: Step) -> Result<Passage, Row>
+    ensures { answer_of passage_of result ≡ past_call (active_of pauli) (step_of step) }
 {
-    let row = row::pass_row(pauli, step);
-    if row != 0 {
-        return PassAnswer::Refused(row);
-    }
-    let left = suited::carried_step(pauli, step);
-    let behind = suited::passed(pauli, step);
-    PassAnswer::Past(left, behind)
+    row::pass_row(pauli, step)?;
+    Ok(Passage {
+        step: suited::carried_step(pauli, step),
+        pauli: suited::passed(pauli, step),
+    })
 }
 
-// Which row refuses a Pauli that is to be on so many qubits: 3, 4, or 0 where none does.
-pub fn placed_row(pauli: ActivePauli, width: usize) -> u8
-    ensures { result ≡ placed_row (active_of pauli) width }
+// 3 and 4, of a Pauli that is to be on so many qubits.
+pub fn placed_row(pauli: ActivePauli, width: usize) -> Result<(), Row>
+    ensures { row_of result ≡ placed_row (active_of pauli) width }
 {
-    if !pauli.is_pauli() {
-        return 3;
-    }
-    rows::row(pauli.nqubits != width, 4)
+    pauli.pauli_row()?;
+    refuse_if(pauli.nqubits != width, Row::WidthsDiffer)
 }

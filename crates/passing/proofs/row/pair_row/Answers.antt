@@ -1,15 +1,25 @@
-use Rattle.answers.specs.Row.{row}
-use Rattle.framelaws.specs.PassRow.{pair_row}
-use mathlib.Core.Bool.{not}
-use mathlib.Core.Path.{ap}
-use borrow.Author.Rules.{rules}
+use Rattle.std.proofs.Common.{sym, ◌∙◌}
+use Rattle.answers.specs.Row.{first_none}
+use Rattle.refusals.proofs.Asked.{asked_first}
+use Rattle.activepauli.specs.Active.{active_of}
+use Rattle.activepauli.specs.Rows.{pauli_row}
+use Rattle.passing.proofs.Rows.{pair_asked}
 use Rattle.passing.proofs.row.pair_row.Goals as goal
 
-pub returns-then-not-is_pauli : goal.returns-then-not-is_pauli
-unfolding pair_row row
-returns-then-not-is_pauli c = rw (← c.is_pauli.ensures, ← c.is_pauli-2.ensures, (ap not c.if-not-is_pauli.true))
+pub returns-in_err-pauli_row : goal.returns-in_err-pauli_row
+returns-in_err-pauli_row c =
+    asked_first _ _ (pauli_row (active_of c.args.pauli)) _ c.from_residual.ensures.1 c.in_err-pauli_row.ensures ∙ pair_asked _ _
+
+pub returns-in_err-pauli_row-2 : goal.returns-in_err-pauli_row-2
+returns-in_err-pauli_row-2 c =
+    let Q = active_of c.args.pauli in
+    let P = active_of c.args.other in
+    asked_first _ _ (pauli_row P) _ c.from_residual-in_err-pauli_row-2.ensures.1 c.in_err-pauli_row-2.ensures
+    ∙ sym (first_none (pauli_row Q) _ (sym c.in_ok-pauli_row.ensures)) ∙ pair_asked Q P
 
 pub returns : goal.returns
-unfolding pair_row row
 returns c =
-    rw (← c.is_pauli.ensures, ← c.is_pauli-2.ensures, (ap not c.if-not-is_pauli.false)) c.row.ensures
+    let Q = active_of c.args.pauli in
+    let P = active_of c.args.other in
+    c.refuse_if.ensures ∙ sym (first_none (pauli_row P) _ (sym c.in_ok-pauli_row-2.ensures))
+    ∙ sym (first_none (pauli_row Q) _ (sym c.in_ok-pauli_row.ensures)) ∙ pair_asked Q P

@@ -1,24 +1,26 @@
-use Rattle.framelaws.specs.PassRow.{pass_row}
-use borrow.Author.Rules.{rules}
+use Rattle.std.proofs.Common.{sym, ◌∙◌, rules}
+use Rattle.answers.specs.Row.{first_none}
+use Rattle.refusals.proofs.Asked.{asked_first}
+use Rattle.activepauli.specs.Active.{active_of}
+use Rattle.framelaws.specs.PassRow.{pass_row, pair_row}
 use Rattle.passing.proofs.row.pass_row.Goals as goal
 
 pub returns-in-Rotation : goal.returns-in-Rotation
 unfolding pass_row
-returns-in-Rotation c = rw c.in-Rotation.is c.pair_row.ensures
+returns-in-Rotation c = search rules
 
 pub returns-in-Promotion : goal.returns-in-Promotion
 unfolding pass_row
 returns-in-Promotion c = rw c.in-Promotion.is c.widened_row.ensures
 
-pub returns-in-Projection : goal.returns-in-Projection
+pub returns-in_err-pair_row-in-Projection : goal.returns-in_err-pair_row-in-Projection
 unfolding pass_row
-returns-in-Projection c =
-    rw c.in-Projection.is (rw (c.pair_row-in-Projection.ensures, c.row.ensures) at c.first.ensures)
+returns-in_err-pair_row-in-Projection c =
+    rw c.in-Projection.is
+    (asked_first _ _ (pair_row (active_of c.args.pauli) (active_of c.in-Projection.measured)) _ c.from_residual.ensures.1 c.in_err-pair_row-in-Projection.ensures)
 
-pub returns-in-Correction : goal.returns-in-Correction
+pub returns-in_ok-pair_row-in-Projection : goal.returns-in_ok-pair_row-in-Projection
 unfolding pass_row
-returns-in-Correction c = rw c.in-Correction.is c.pair_row-in-Correction.ensures
-
-pub returns-in-QuarterTurn : goal.returns-in-QuarterTurn
-unfolding pass_row
-returns-in-QuarterTurn c = rw c.in-QuarterTurn.is c.pair_row-in-QuarterTurn.ensures
+returns-in_ok-pair_row-in-Projection c =
+    rw c.in-Projection.is
+    (c.refuse_if.ensures ∙ sym (first_none (pair_row (active_of c.args.pauli) (active_of c.in-Projection.measured)) _ (sym c.in_ok-pair_row-in-Projection.ensures)))

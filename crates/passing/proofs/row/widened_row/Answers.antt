@@ -1,22 +1,22 @@
-use mathlib.Core.Path.{sym, ◌∙◌}
-use Rattle.answers.specs.Row.{row}
-use Rattle.framelaws.specs.PassRow.{widened_row}
+use Rattle.std.proofs.Common.{sym, ap, ◌∙◌, arith}
+use borrow.Author.Tests.{not-false}
+use Rattle.answers.specs.Row.{first_none, row_passed}
 use Rattle.paulilaws.proofs.Fitting.{fits_admitted}
-use borrow.Author.Tests.{not-true, not-false}
-use mathlib.Core.Bool.{not}
-use mathlib.Core.Path.{ap}
-use borrow.Author.Rules.{rules}
+use Rattle.refusals.proofs.Asked.{asked_first}
+use Rattle.activepauli.specs.Active.{active_of}
+use Rattle.activepauli.specs.Rows.{pauli_row}
+use Rattle.passing.proofs.Rows.{widened_asked}
 use Rattle.passing.proofs.row.widened_row.Goals as goal
 
-pub returns-then-not-is_pauli : goal.returns-then-not-is_pauli
-unfolding widened_row row
-returns-then-not-is_pauli c = rw (← c.is_pauli.ensures, not-true c.is_pauli.result (ap not c.if-not-is_pauli.true))
+pub returns-in_err-pauli_row : goal.returns-in_err-pauli_row
+returns-in_err-pauli_row c =
+    asked_first _ _ (pauli_row (active_of c.args.pauli)) _ c.from_residual.ensures.1 c.in_err-pauli_row.ensures ∙ widened_asked _
 
 pub widened-requires : goal.widened-requires
-widened-requires c = (fits_admitted _ (sym c.is_pauli.ensures ∙ not-false _ (ap not c.if-not-is_pauli.false))).width
+unfolding pauli_row
+widened-requires c = (fits_admitted _ (not-false _ (row_passed _ 3 0 (omega arith) (sym c.in_ok-pauli_row.ensures)).0)).width
 
 pub returns : goal.returns
-unfolding widened_row
 returns c =
-    rw (← c.is_pauli.ensures, not-false c.is_pauli.result (ap not c.if-not-is_pauli.false))
-    (rw (← c.widened.ensures, ← c.is_pauli-2.ensures) c.row.ensures)
+    let Q = active_of c.args.pauli in
+    c.pauli_row-2.ensures ∙ ap pauli_row c.widened.ensures ∙ sym (first_none (pauli_row Q) _ (sym c.in_ok-pauli_row.ensures)) ∙ widened_asked Q

@@ -1,18 +1,10 @@
-use mathlib.Core.Path.{sym, ap, ◌∙◌, subst}
-use Prim.Native.Nat.{◌*◌}
+use Rattle.std.proofs.Common.{◌*◌, sym, ap, ◌∙◌, subst}
 use Rattle.bitlaws.specs.Digit.{bit_of}
 use Rattle.paulilaws.specs.Fitting.{Admitted, product_fitting}
 use Rattle.paulilaws.specs.Pauli.{product}
 use Rattle.paulilaws.specs.Frame.{raised}
 use Rattle.framelaws.specs.Carrying.{absorbed}
-use borrow.Author.Tests.{not-true, not-false}
-use mathlib.Core.Bool.{not}
-use borrow.Author.Rules.{rules}
 use Rattle.passing.proofs.suited.absorbed.Goals as goal
-
-pub returns-then-not-met : goal.returns-then-not-met
-unfolding absorbed
-returns-then-not-met c = rw (not-true c.args.met (ap not c.if-not-met.true))
 
 pub signed-requires : goal.signed-requires
 signed-requires c =
@@ -20,8 +12,12 @@ signed-requires c =
     subst Admitted (sym c.times.ensures)
     (record { fitting = product_fitting (sym p.width) p.first.fitting p.second; width = unfold product in p.first.width })
 
-pub returns : goal.returns
+pub returns-then-met : goal.returns-then-met
 unfolding absorbed
-returns c =
+returns-then-met c =
     let a = c.args in
-    rw (not-false a.met (ap not c.if-not-met.false)) (c.signed.ensures ∙ ap (raised (2 * bit_of a.branch)) c.times.ensures)
+    rw c.if-met.true (c.signed.ensures ∙ ap (raised (2 * bit_of a.branch)) c.times.ensures)
+
+pub returns-else-met : goal.returns-else-met
+unfolding absorbed
+returns-else-met c = rw c.if-met.false

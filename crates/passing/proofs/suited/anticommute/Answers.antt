@@ -1,15 +1,10 @@
-use mathlib.Core.Path.{◌≡◌, refl, ap, ◌∙◌}
-use mathlib.Core.Bool.{false}
-use Prim.Native.Nat.{ℕ, zero, suc, ◌+◌, ◌<◌}
-use native.Mathlib.Omega.{arith}
-use lib.Dec.{eqb}
-use Rattle.answers.specs.Answer.{value_or}
+use Rattle.std.proofs.Common.{◌≡◌, ℕ, zero, suc, ◌+◌, ◌<◌, Bool, eqb, refl, ap, ◌∙◌, arith}
 use Rattle.bitlaws.specs.Digit.{bit_of, mod_two}
 use Rattle.bitlaws.specs.Parity.{overlap}
 use Rattle.paulilaws.specs.Pauli.{Pauli, anti}
 use Rattle.activepauli.specs.Active.{active_of}
 use Rattle.activepauli.specs.Accepted.{anticommutes_accepted}
-use borrow.Author.Rules.{rules}
+use Rattle.passing.specs.Unrefused.{unrefused, value_is}
 use Rattle.passing.proofs.suited.anticommute.Goals as goal
 
 odd : (n : ℕ) → n < 2 → bit_of (eqb n 1) ≡ n
@@ -21,11 +16,13 @@ anti_bit : (A B : Pauli) → bit_of (eqb (anti A B) 1) ≡ anti A B
 unfolding anti
 anti_bit A B = odd (anti A B) (mod_two (overlap A.x B.z + overlap A.z B.x))
 
-pub returns : goal.returns
-unfolding value_or
-returns c =
-    let Q = active_of c.args.pauli in
-    let P = active_of c.args.other in
+pub unwrap-requires : goal.unwrap-requires
+unwrap-requires c =
     let p = c.requires in
-    let told = c.anticommutes.ensures ∙ anticommutes_accepted Q P p.first p.second p.width in
-    ap bit_of (c.bit_or_false.ensures ∙ ap (value_or false) told) ∙ anti_bit Q P
+    unrefused (λ (b : Bool). b) c.anticommutes.result (c.anticommutes.ensures ∙ anticommutes_accepted _ _ p.first p.second p.width)
+
+pub returns : goal.returns
+returns c =
+    let p = c.requires in
+    let told = c.anticommutes.ensures ∙ anticommutes_accepted (active_of c.args.pauli) (active_of c.args.other) p.first p.second p.width in
+    ap bit_of (value_is (λ (b : Bool). b) c.anticommutes.result told _ c.unwrap.ensures) ∙ anti_bit _ _

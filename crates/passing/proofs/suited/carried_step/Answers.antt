@@ -6,30 +6,22 @@ use Rattle.framelaws.specs.Suited.{Suited}
 use borrow.Author.Rules.{rules}
 use Rattle.passing.proofs.suited.carried_step.Goals as goal
 
-pub flipped-new-requires : goal.flipped-new-requires
-flipped-new-requires c =
+pub flipped-requires : goal.flipped-requires
+flipped-requires c =
     subst (Suited (active_of c.args.pauli)) (ap step_of c.in-Rotation.is) c.requires
 
-pub flipped-new-requires-in-Projection : goal.flipped-new-requires-in-Projection
-flipped-new-requires-in-Projection c =
+pub flipped-requires-in-Projection : goal.flipped-requires-in-Projection
+flipped-requires-in-Projection c =
     (subst (Suited (active_of c.args.pauli)) (ap step_of c.in-Projection.is) c.requires).0
 
 pub returns-in-Rotation : goal.returns-in-Rotation
 unfolding carried_step
-returns-in-Rotation c = rw (c.in-Rotation.is, c.flipped-new.ensures)
+returns-in-Rotation c = rw (c.in-Rotation.is, c.flipped.ensures)
 
 pub returns-in-Promotion : goal.returns-in-Promotion
 unfolding carried_step
-returns-in-Promotion c = rw c.in-Promotion.is
+returns-in-Promotion c = search rules
 
 pub returns-in-Projection : goal.returns-in-Projection
 unfolding carried_step
-returns-in-Projection c = rw (c.in-Projection.is, c.flipped-new-in-Projection.ensures)
-
-pub returns-in-Correction : goal.returns-in-Correction
-unfolding carried_step
-returns-in-Correction c = rw c.in-Correction.is
-
-pub returns-in-QuarterTurn : goal.returns-in-QuarterTurn
-unfolding carried_step
-returns-in-QuarterTurn c = rw c.in-QuarterTurn.is
+returns-in-Projection c = rw (c.in-Projection.is, c.flipped-in-Projection.ensures)

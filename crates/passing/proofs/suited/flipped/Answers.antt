@@ -4,7 +4,6 @@ use Prim.Native.Nat.{ℕ, ◌+◌, ◌%◌}
 use lib.Ieee.{unlike}
 use Rattle.bitlaws.specs.Digit.{bit_of}
 use Rattle.framelaws.specs.Carrying.{flipped}
-use borrow.Author.Rules.{rules}
 use Rattle.passing.proofs.suited.flipped.Goals as goal
 
 sum : (s t : Bool) → bit_of (unlike s t) ≡ (bit_of s + bit_of t) % 2

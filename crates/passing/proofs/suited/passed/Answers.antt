@@ -5,7 +5,6 @@ use Rattle.activepauli.specs.Active.{active_of}
 use Rattle.framelaws.specs.Carrying.{passed}
 use Rattle.steps.specs.Meaning.{step_of}
 use Rattle.framelaws.specs.Suited.{Suited}
-use borrow.Author.Rules.{rules}
 use Rattle.passing.proofs.suited.passed.Goals as goal
 
 pub widened-requires : goal.widened-requires
@@ -16,8 +15,8 @@ pub past_projection-requires : goal.past_projection-requires
 past_projection-requires c =
     subst (Suited (active_of c.args.pauli)) (ap step_of c.in-Projection.is) c.requires
 
-pub anticommute-turned-requires : goal.anticommute-turned-requires
-anticommute-turned-requires c =
+pub anticommute-requires : goal.anticommute-requires
+anticommute-requires c =
     subst (Suited (active_of c.args.pauli)) (ap step_of c.in-Correction.is) c.requires
 
 pub signed-requires : goal.signed-requires
@@ -44,7 +43,7 @@ pub returns-in-Correction : goal.returns-in-Correction
 unfolding passed
 returns-in-Correction c =
     rw c.in-Correction.is
-    (c.signed.ensures ∙ ap (λ (n : ℕ). raised (2 * n) (active_of c.args.pauli)) c.anticommute-turned.ensures)
+    (c.signed.ensures ∙ ap (λ (n : ℕ). raised (2 * n) (active_of c.args.pauli)) c.anticommute.ensures)
 
 pub returns-in-QuarterTurn : goal.returns-in-QuarterTurn
 unfolding passed

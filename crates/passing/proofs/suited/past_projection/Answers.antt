@@ -1,40 +1,38 @@
-use mathlib.Core.Path.{◌≡◌, sym, ap, ap₂, ◌∙◌, subst}
-use mathlib.Core.Bool.{Bool}
-use Prim.Native.Nat.{ℕ, ◌<◌}
-use Rattle.answers.specs.Answer.{value_or}
+use Rattle.std.proofs.Common.{◌≡◌, ℕ, ◌<◌, Bool, sym, ap, ap₂, ◌∙◌, subst}
 use Rattle.bitlaws.specs.Digit.{bit_of}
 use Rattle.paulilaws.specs.Pauli.{Pauli}
 use Rattle.paulilaws.specs.Fitting.{Admitted}
 use Rattle.paulilaws.specs.Frame.{dropped}
 use Rattle.activepauli.specs.Active.{active_of}
 use Rattle.activepauli.specs.Accepted.{dropped_accepted}
+use Rattle.activepauli.specs.Calls.{dropped_call}
+use Rattle.answers.specs.Answer.Answer.{accepted}
 use Rattle.framelaws.specs.Carrying.{flipped, meets, absorbed}
 use Rattle.framelaws.specs.Fitted.{absorbed_width, absorbed_fitting}
-use borrow.Author.Rules.{rules}
+use Rattle.framelaws.specs.Suited.{Paired}
+use Rattle.passing.specs.Unrefused.{unrefused, value_is}
 use Rattle.passing.proofs.suited.past_projection.Goals as goal
+use Rattle.passing.proofs.suited.past_projection.Goals.{After-absorbed-whole}
 
-pub returns : goal.returns
-unfolding value_or
-returns c =
-    let Q = active_of c.args.pauli in
-    let M = active_of c.args.measured in
-    let p = c.args.pivot in
-    let pair = c.requires.0 in
+-- a Pauli on the measured one's qubits, after the product, has the pivot's qubit
+whole_dropped : (Q M : Pauli) (p v : ℕ) (t : Bool) (whole : Pauli) → Paired Q M → p < Q.n → whole ≡ absorbed t M v Q → dropped_call whole p ≡ accepted (dropped p whole)
+whole_dropped Q M p v t whole pair inside is =
     let same = sym pair.width in
-    let t = meets M p Q in
-    let v = flipped Q M (bit_of c.args.branch) in
-    let whole = active_of c.absorbed-whole.result in
-    let is : whole ≡ absorbed t M v Q
-    = c.absorbed-whole.ensures
-    ∙ ap₂ (λ (s : Bool) (n : ℕ). absorbed s M n Q)
-    c.meets-met.ensures
-    c.flipped-new.ensures in
-    let admitted : Admitted whole
-    = subst Admitted (sym is)
+    dropped_accepted whole (subst Admitted (sym is)
     (record {
       fitting = absorbed_fitting M v Q same t pair.second pair.first.fitting;
       width = rw (absorbed_width M v Q same t) pair.first.width;
-    }) in
-    let inside : p < whole.n = subst (λ (n : ℕ). p < n) (sym (ap (λ (P : Pauli). P.n) is ∙ absorbed_width M v Q same t)) c.requires.1 in
-    let told = c.dropped-narrow.ensures ∙ dropped_accepted whole admitted p inside in
-    c.pauli_or.ensures ∙ ap (value_or whole) told ∙ ap (dropped p) is
+    })) p (subst (λ (n : ℕ). p < n) (sym (ap (λ (P : Pauli). P.n) is ∙ absorbed_width M v Q same t)) inside)
+
+whole_is : (c : After-absorbed-whole) → let Q = active_of c.args.pauli in let M = active_of c.args.measured in
+    active_of c.absorbed-whole.result ≡ absorbed (meets M c.args.pivot Q) M (flipped Q M (bit_of c.args.branch)) Q
+whole_is c = c.absorbed-whole.ensures ∙ ap₂ (λ (s : Bool) (n : ℕ). absorbed s (active_of c.args.measured) n (active_of c.args.pauli)) c.meets-met.ensures c.flipped-new.ensures
+
+pub unwrap-requires : goal.unwrap-requires
+unwrap-requires c =
+    unrefused active_of c.dropped.result (c.dropped.ensures ∙ whole_dropped _ _ _ _ _ _ c.requires.0 c.requires.1 (whole_is (goal.at.unwrap-requires c).After-absorbed-whole))
+
+pub returns : goal.returns
+returns c =
+    let is = whole_is (goal.at.returns c).After-absorbed-whole in
+    value_is active_of c.dropped.result (c.dropped.ensures ∙ whole_dropped _ _ _ _ _ _ c.requires.0 c.requires.1 is) _ c.unwrap.ensures ∙ ap (dropped c.args.pivot) is

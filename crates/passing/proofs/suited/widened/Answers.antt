@@ -1,6 +1,5 @@
 use native.Mathlib.Numerals.{add-one}
 use Rattle.framelaws.specs.Carrying.{widened}
-use borrow.Author.Rules.{rules}
 use Rattle.passing.proofs.suited.widened.Goals as goal
 
 pub returns : goal.returns

@@ -5,7 +5,7 @@ use mathlib.Core.List.{List}
 use mathlib.Core.Option.{Option, none, some, none-ne-some}
 use Prim.Native.Nat.{ℕ, ◌+◌, ◌-◌, ◌*◌, ◌≤◌, ◌<◌}
 use native.Mathlib.Omega.{arith}
-use native.Mathlib.Nat.{add_assoc, add-sub_cancel_left}
+use native.Mathlib.Nat.{add-zero, add-sub_cancel_left}
 use lib.Dec.{ltb}
 use lib.ListN.{length}
 use borrow.Author.Tests.{leb-true, le-leb, lt-leb, lt-ltb, le-ltb, ltb-false, eq-eqb, ne_eqb}
@@ -14,7 +14,15 @@ use Rattle.answers.specs.Row.{accepted_same, refused_at_accepted}
 use Rattle.runlaws.specs.Bytes.{byte_at, part}
 use Rattle.runlaws.specs.Field.{Field, most_bytes, body_length, is_whole, field_at}
 use Rattle.runlaws.specs.Run.{start_width}
-use Rattle.fields.specs.Meaning.{Head, field_in, place_in, head_call, body_call, start_call}
+use Rattle.std.specs.List.{slice_range}
+use Rattle.std.proofs.lemmas.List.{get_or-drop}
+use Rattle.std.proofs.lemmas.Slice.{between_to_end}
+use Rattle.std.specs.Prelude.{Result, Ok, Err, Some, None}
+use Rattle.std.specs.Result.{result_ok}
+use Rattle.refusals.specs.Refusal.{row_at_answer_of}
+use Rattle.refusals.specs.declared.RowAt.{RowAt}
+use Rattle.fields.specs.declared.Head as declared
+use Rattle.fields.specs.Meaning.{Head, field_in, place_in, head_of, head_call, body_call}
 
 -- what is asked for at `at` is the field of this head and this body
 pub field_of : (at : ℕ) (f : Option Field) (tag next : ℕ) (body : List ℕ) → accepted (record { tag = tag; next = next }) ≡ head_call at f → body ≡ body_call f
@@ -59,9 +67,17 @@ module _ (s : List ℕ) (at : ℕ) where
   abbrev given : Field
   given = record { tag = byte_at s at; body = part (at + 3) (body_length s at) s; next = at + 3 + body_length s at }
 
-  pub length_read : byte_at s (at + 1) + 256 * byte_at s (at + 1 + 1) ≡ body_length s at
-  unfolding body_length
-  length_read = ap (λ (j : ℕ). byte_at s (at + 1) + 256 * byte_at s j) (add_assoc at 1 1)
+  -- what the code reads in the part of the run from the tag on
+  module _ (p : List ℕ) (is : p ≡ slice_range s at (length s)) where
+    read : (i : ℕ) → byte_at p i ≡ byte_at s (at + i)
+    read i = rw (is, between_to_end s at (length s) (omega arith)) (get_or-drop at s i 0)
+
+    pub tag_read : byte_at p 0 ≡ byte_at s at
+    tag_read = rw add-zero at (read 0)
+
+    pub length_read : byte_at p 1 + byte_at p 2 * 256 ≡ body_length s at
+    unfolding body_length
+    length_read = omega (arith, read 1, read 2)
 
   cut : length s < at + 3 + body_length s at → refused_at 14 at ≡ head_call at (field_at s at)
   unfolding field_at is_whole head_call
@@ -110,22 +126,28 @@ unfolding head_call
 field_none at none h = refl
 field_none at (some f) h = absurd (refused_at_accepted h)
 
--- ---- the start field, as it is answered
+-- ---- the answer of `field`, asked for its head alone
 
-pub start_cut : (at : ℕ) (f : Option Field) {n i : ℕ} → refused_at n i ≡ head_call at f → refused_at 14 0 ≡ start_call (start_width f)
-unfolding start_width start_call
-start_cut at f h = rw (field_none at f h)
+module _ (at : ℕ) (f : Option Field) where
+  pub headless : (r : Result declared.Head RowAt) → row_at_answer_of head_of r ≡ head_call at f → result_ok r ≡ None → f ≡ none
+  headless (Ok h) told e = cc
+  headless (Err p) told e = field_none at f told
 
-pub start_tag : (at : ℕ) (f : Option Field) (tag next : ℕ) → accepted (record { tag = tag; next = next }) ≡ head_call at f → (tag ≡ 1 → ⊥)
-    → refused_at 14 0 ≡ start_call (start_width f)
-unfolding start_width start_call
+  pub headed : (r : Result declared.Head RowAt) {h : declared.Head} → row_at_answer_of head_of r ≡ head_call at f → result_ok r ≡ Some h → accepted (head_of h) ≡ head_call at f
+  headed (Ok k) told e = cc
+  headed (Err p) told e = cc
+
+-- ---- the width of the start field, as it is answered
+
+pub start_tag : (at : ℕ) (f : Option Field) (tag next : ℕ) → accepted (record { tag = tag; next = next }) ≡ head_call at f → (tag ≡ 1 → ⊥) → none ≡ start_width f
+unfolding start_width
 start_tag at f tag next h other = rw (field_of at f tag next (body_call f) h refl, ne_eqb tag 1 other)
 
 module _ (at : ℕ) (f : Option Field) (tag next : ℕ) (body : List ℕ) (h : accepted (record { tag = tag; next = next }) ≡ head_call at f) (b : body ≡ body_call f) (one : tag ≡ 1) where
-  pub start_size : (length body ≡ 1 → ⊥) → refused_at 14 0 ≡ start_call (start_width f)
-  unfolding start_width start_call
+  pub start_size : (length body ≡ 1 → ⊥) → none ≡ start_width f
+  unfolding start_width
   start_size other = rw (field_of at f tag next body h b, eq-eqb tag 1 one, ne_eqb (length body) 1 other)
 
-  pub start_good : length body ≡ 1 → accepted (byte_at body 0) ≡ start_call (start_width f)
-  unfolding start_width start_call
+  pub start_good : length body ≡ 1 → some (byte_at body 0) ≡ start_width f
+  unfolding start_width
   start_good size = rw (field_of at f tag next body h b, eq-eqb tag 1 one, eq-eqb (length body) 1 size)

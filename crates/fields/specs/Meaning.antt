@@ -1,13 +1,10 @@
--- What the declared answers about a field mean, and the parts of a field that are handed out one by one.
+-- What a declared head means, and the parts of a field that are handed out one by one.
 use Rattle.std.specs.Prelude.{cond, List, [], ℕ, ltb, length}
 use Rattle.std.proofs.Math.Option.{Option, none, some}
 use Rattle.answers.specs.Answer.{Answer}
 use Rattle.answers.specs.Answer.Answer.{accepted, refused_at}
 use Rattle.runlaws.specs.Field.{Field, most_bytes, field_at}
-use Rattle.fields.specs.declared.FieldAnswer.{FieldAnswer}
-use Rattle.fields.specs.declared.FieldAnswer.TheVariants.{Whole, Refused}
-use Rattle.fields.specs.declared.StartAnswer.{StartAnswer}
-use Rattle.fields.specs.declared.StartAnswer.TheVariants.{Width, NoStart}
+use Rattle.fields.specs.declared.Head as declared
 
 -- a field without its body
 pub record Head : Type 0 where
@@ -32,15 +29,5 @@ unfoldable pub body_call : Option Field → List ℕ
 body_call none = []
 body_call (some f) = f.body
 
--- the width that the start field gives; it stands at 0, and row 14 is refused there where it gives none
-unfoldable pub start_call : Option ℕ → Answer ℕ
-start_call none = refused_at 14 0
-start_call (some n) = accepted n
-
-abbrev pub field_answer_of : FieldAnswer → Answer Head
-field_answer_of (Whole tag next) = accepted (record { tag = tag; next = next })
-field_answer_of (Refused n at) = refused_at n at
-
-abbrev pub start_answer_of : StartAnswer → Answer ℕ
-start_answer_of (Width n) = accepted n
-start_answer_of NoStart = refused_at 14 0
+abbrev pub head_of : declared.Head → Head
+head_of h = record { tag = h.tag; next = h.next }

@@ -1,11 +1,13 @@
 -- What the declared types mean.
-use Rattle.std.specs.Prelude.{Float}
+use Rattle.std.specs.Prelude.{Float, Result, Ok, Err}
 use Rattle.bitlaws.specs.Digit.{bit_of}
 use Rattle.activepauli.specs.Active.{active_of}
 use Rattle.amplitudelaws.specs.Step as amplitudes
 use Rattle.amplitudelaws.specs.Step.Step.{rotation, promotion, projection, correction, quarter_turn}
 use Rattle.runlaws.specs.Reading as run
 use Rattle.runlaws.specs.Reading.Read.{step_read, end_read, refused_read}
+use Rattle.refusals.specs.declared.RowAt.{RowAt}
+use Rattle.refusals.specs.Refusal.{number_of}
 use Rattle.steps.specs.declared.Cursor.{Cursor}
 use Rattle.steps.specs.declared.Step.{Step}
 use Rattle.steps.specs.declared.Step.TheVariants.{Rotation, Promotion, Projection, Correction, QuarterTurn}
@@ -22,7 +24,8 @@ step_of (Projection M p v invnorm) = projection (active_of M) p (bit_of v) invno
 step_of (Correction P) = correction (active_of P)
 step_of (QuarterTurn P) = quarter_turn (active_of P)
 
-abbrev pub read_of : Read → run.Read
-read_of (read.Step t c) = step_read (step_of t) (cursor_of c)
-read_of (read.End c) = end_read (cursor_of c)
-read_of (read.Refused n at) = refused_read n at
+-- a refusal stands at its place
+abbrev pub read_of : Result Read RowAt → run.Read
+read_of (Ok (read.Step t c)) = step_read (step_of t) (cursor_of c)
+read_of (Ok (read.End c)) = end_read (cursor_of c)
+read_of (Err p) = refused_read (number_of p.row) p.at

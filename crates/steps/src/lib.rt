@@ -1,5 +1,5 @@
 // The steps of a run as they are read: a step carries its Pauli and its floats, a read the step and
-// the cursor behind it, or the refusal with its place. Types, no functions.
+// the cursor behind it. Types, no functions.
 #![tactic(auto)]
 
 pub mod tag;
@@ -25,10 +25,9 @@ pub enum Step {
     QuarterTurn(ActivePauli),
 }
 
-// What a read gives: a step, the end field, or the number of the row that refuses and its place.
+// What a read gives where no row refuses it: a step or the end field, each with the cursor behind it.
 #[derive(Clone, Copy)]
 pub enum Read {
     Step(Step, Cursor),
     End(Cursor),
-    Refused(u8, usize),
 }

@@ -1,10 +1,9 @@
--- What the answer of a call on amplitudes means.
+-- What a call on amplitudes answers: refused by a row, or done, and then what was lent holds its result.
+use Rattle.std.specs.Prelude.{Result}
 use Rattle.answers.specs.Answer.{Answer}
-use Rattle.answers.specs.Answer.Answer.{accepted, refused}
 use Rattle.answers.specs.Outcome.{Finished, finished}
-use Rattle.rows.specs.declared.StepAnswer.{StepAnswer}
-use Rattle.rows.specs.declared.StepAnswer.TheVariants as step
+use Rattle.refusals.specs.declared.Row.{Row}
+use Rattle.refusals.specs.Refusal.{answer_of}
 
-abbrev pub step_answer_of : StepAnswer → Answer Finished
-step_answer_of step.Done = accepted finished
-step_answer_of (step.Refused n) = refused n
+abbrev pub step_answer_of : {A : Type 0} → Result A Row → Answer Finished
+step_answer_of = answer_of (λ done. finished)

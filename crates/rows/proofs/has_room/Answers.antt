@@ -1,5 +1,4 @@
 use Rattle.amplitudelaws.specs.State.{room_for, room}
-use borrow.Author.Rules.{rules}
 use Rattle.rows.proofs.has_room.Goals as goal
 
 pub returns : goal.returns

@@ -4,7 +4,6 @@ use native.Mathlib.Omega.{arith}
 use lib.Pow.{pow_mono}
 use borrow.Author.Tests.{lt-leb}
 use Rattle.bitlaws.specs.Digit.{one_shifted}
-use borrow.Author.Rules.{rules}
 use Rattle.rows.proofs.is_enough.Goals as goal
 
 pub returns-then-nqubits-ge64 : goal.returns-then-nqubits-ge64

@@ -1,11 +1,17 @@
-use mathlib.Core.Path.{ap₂, ◌∙◌}
-use Rattle.answers.specs.Row.{first}
 use Rattle.amplitudelaws.specs.Rows.{measurement_row}
-use borrow.Author.Rules.{rules}
+use Rattle.refusals.proofs.Asked.{asked_first}
+use Rattle.rows.proofs.Behind.{behind}
 use Rattle.rows.proofs.measurement_row.Goals as goal
+
+pub returns-in_err-hermitian_row : goal.returns-in_err-hermitian_row
+unfolding measurement_row
+returns-in_err-hermitian_row c = asked_first _ _ _ _ c.from_residual.ensures.1 c.in_err-hermitian_row.ensures
+
+pub returns-in_err-refuse_if : goal.returns-in_err-refuse_if
+unfolding measurement_row
+returns-in_err-refuse_if c =
+    behind c.in_ok-hermitian_row.ensures (asked_first _ _ _ _ c.from_residual-in_err-refuse_if.ensures.1 c.in_err-refuse_if.ensures)
 
 pub returns : goal.returns
 unfolding measurement_row
-returns c =
-    let rest = c.first.ensures ∙ ap₂ first c.row.ensures c.pivot_row.ensures in
-    c.first-2.ensures ∙ ap₂ first c.hermitian_row.ensures rest
+returns c = behind c.in_ok-hermitian_row.ensures (behind c.in_ok-refuse_if.ensures c.pivot_row.ensures)

@@ -1,32 +1,27 @@
-use native.Mathlib.Omega.{arith}
-use borrow.Author.Tests.{eq-eqb, ne_eqb, le-leb, lt-leb}
-use Rattle.answers.specs.Row.{row}
 use Rattle.amplitudelaws.specs.Rows.{pivot_row}
-use borrow.Author.Rules.{rules}
+use Rattle.rows.proofs.Behind.{asked_row, behind_row}
 use Rattle.rows.proofs.pivot_row.Goals as goal
 
-pub returns-then-pauli-eq0 : goal.returns-then-pauli-eq0
-unfolding pivot_row row
-returns-then-pauli-eq0 c = rw (eq-eqb c.args.pauli.nqubits 0 c.if-pauli-eq0.true)
+pub returns-in_err-refuse_if : goal.returns-in_err-refuse_if
+unfolding pivot_row
+returns-in_err-refuse_if c = asked_row _ 8 _ _ _ c.from_residual.ensures.1 c.in_err-refuse_if.ensures
 
-pub returns-then-pauli-pivot : goal.returns-then-pauli-pivot
-unfolding pivot_row row
-returns-then-pauli-pivot c =
-    let a = c.args in
-    rw (ne_eqb a.pauli.nqubits 0 c.if-pauli-eq0.false, le-leb a.pauli.nqubits a.pivot (omega arith))
+pub returns-in_err-refuse_if-2 : goal.returns-in_err-refuse_if-2
+unfolding pivot_row
+returns-in_err-refuse_if-2 c =
+    behind_row _ 8 _ c.in_ok-refuse_if.ensures
+    (asked_row _ 9 _ _ _ c.from_residual-in_err-refuse_if-2.ensures.1 c.in_err-refuse_if-2.ensures)
 
-pub returns-then-mask-eq0 : goal.returns-then-mask-eq0
-unfolding pivot_row row
-returns-then-mask-eq0 c =
-    let a = c.args in
-    let inside = lt-leb a.pauli.nqubits a.pivot c.if-pauli-pivot.false in
-    rw (ne_eqb a.pauli.nqubits 0 c.if-pauli-eq0.false, inside, ← c.pivot_mask-mask.ensures, eq-eqb c.pivot_mask-mask.result 0 c.if-mask-eq0.true)
+pub returns-in_err-refuse_if-3 : goal.returns-in_err-refuse_if-3
+unfolding pivot_row
+returns-in_err-refuse_if-3 c =
+    rw (← c.pivot_mask-mask.ensures)
+    (behind_row _ 8 _ c.in_ok-refuse_if.ensures (behind_row _ 9 _ c.in_ok-refuse_if-2.ensures
+    (asked_row _ 10 _ _ _ c.from_residual-in_err-refuse_if-3.ensures.1 c.in_err-refuse_if-3.ensures)))
 
 pub returns : goal.returns
-unfolding pivot_row row
+unfolding pivot_row
 returns c =
-    let a = c.args in
-    let inside = lt-leb a.pauli.nqubits a.pivot c.if-pauli-pivot.false in
-    let some-mask = ne_eqb c.pivot_mask-mask.result 0 c.if-mask-eq0.false in
-    rw (ne_eqb a.pauli.nqubits 0 c.if-pauli-eq0.false, inside, ← c.pivot_mask-mask.ensures, some-mask, ← c.word_bit.ensures)
-    c.row.ensures
+    rw (← c.pivot_mask-mask.ensures, ← c.word_bit.ensures)
+    (behind_row _ 8 _ c.in_ok-refuse_if.ensures (behind_row _ 9 _ c.in_ok-refuse_if-2.ensures
+    (behind_row _ 10 _ c.in_ok-refuse_if-3.ensures c.refuse_if-4.ensures)))

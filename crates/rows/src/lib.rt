@@ -100,7 +100,7 @@ pub fn rotation_row(pauli: ActivePauli, c: f64, s: f64) -> Result<(), Row>
 }
 
 // The mask that the pivot must be in: x, or z where x is 0.
-fn pivot_mask(pauli: ActivePauli) -> u64
+pub fn pivot_mask(pauli: ActivePauli) -> u64
     ensures { result ≡ pivot_mask (active_of pauli) }
 {
     if pauli.x == 0 { pauli.z } else { pauli.x }

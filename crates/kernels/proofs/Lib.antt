@@ -1,2 +1,1 @@
 pub mod DefaultPivot
-pub mod OneWord

@@ -1,8 +1,6 @@
 -- What an action and the two kernels of a Pauli hold, and what the declared types mean.
 use Rattle.std.specs.Prelude.{Bool, true, not, ◌&&◌, ℕ, ◌-◌, ◌^◌, eqb, Float}
 use Rattle.std.proofs.Math.Option.{Option, none, some}
-use Rattle.answers.specs.Answer.{Answer}
-use Rattle.answers.specs.Answer.Answer.{accepted, refused}
 use Rattle.bitlaws.specs.Highest.{highest}
 use Rattle.bitlaws.specs.Parity.{overlap}
 use Rattle.paulilaws.specs.Pauli.{Pauli}
@@ -15,12 +13,6 @@ use Rattle.complex.specs.Complex.{complex_of}
 use Rattle.kernels.specs.declared.ActivePauliAction.{ActivePauliAction}
 use Rattle.kernels.specs.declared.PrecomputedActivePauliRotationKernel.{PrecomputedActivePauliRotationKernel}
 use Rattle.kernels.specs.declared.PrecomputedActivePauliMeasurementKernel.{PrecomputedActivePauliMeasurementKernel}
-use Rattle.kernels.specs.declared.ActionAnswer.{ActionAnswer}
-use Rattle.kernels.specs.declared.ActionAnswer.TheVariants as act
-use Rattle.kernels.specs.declared.RotationKernelAnswer.{RotationKernelAnswer}
-use Rattle.kernels.specs.declared.RotationKernelAnswer.TheVariants as turn
-use Rattle.kernels.specs.declared.MeasurementKernelAnswer.{MeasurementKernelAnswer}
-use Rattle.kernels.specs.declared.MeasurementKernelAnswer.TheVariants as measure
 
 pub record Action : Type 0 where
   pub n : ℕ
@@ -122,15 +114,3 @@ measurement_kernel_of r = record {
   outputs = r.out_dim;
   coefficient = complex_of r.nondiagonal_coefficient1_even;
 }
-
-abbrev pub action_answer_of : ActionAnswer → Answer Action
-action_answer_of (act.Action a) = accepted (action_of a)
-action_answer_of (act.Refused n) = refused n
-
-abbrev pub rotation_kernel_answer_of : RotationKernelAnswer → Answer RotationKernel
-rotation_kernel_answer_of (turn.Kernel r) = accepted (rotation_kernel_of r)
-rotation_kernel_answer_of (turn.Refused n) = refused n
-
-abbrev pub measurement_kernel_answer_of : MeasurementKernelAnswer → Answer MeasurementKernel
-measurement_kernel_answer_of (measure.Kernel r) = accepted (measurement_kernel_of r)
-measurement_kernel_answer_of (measure.Refused n) = refused n

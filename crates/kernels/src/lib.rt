@@ -7,18 +7,19 @@
 
 ghost use Rattle.std.specs.Prelude.{◌≡◌, false, ◌<◌, ◌≤◌, ◌^◌};
 ghost use Rattle.answers.specs.Row.{answered};
+ghost use Rattle.refusals.specs.Refusal.{answer_of};
 ghost use Rattle.paulis.specs.Strings.{pauli_of};
 ghost use Rattle.activepauli.specs.Active.{active_of};
-ghost use Rattle.amplitudelaws.specs.Rows.{action_row, rotation_kernel_row, pivot_mask, measurement_row};
-ghost use Rattle.kernels.specs.Kernel.{action_of, action_answer_of, pauli_action};
-ghost use Rattle.kernels.specs.Kernel.{rotation_kernel_of, rotation_kernel_answer_of, rotation_kernel};
-ghost use Rattle.kernels.specs.Kernel.{measurement_kernel_of, measurement_kernel_answer_of, measurement_kernel};
+ghost use Rattle.amplitudelaws.specs.Rows.{action_row, rotation_kernel_row, measurement_row};
+ghost use Rattle.kernels.specs.Kernel.{action_of, pauli_action};
+ghost use Rattle.kernels.specs.Kernel.{rotation_kernel_of, rotation_kernel};
+ghost use Rattle.kernels.specs.Kernel.{measurement_kernel_of, measurement_kernel};
 ghost use Rattle.kernels.specs.Kernel.{default_pivot, highest_or_zero};
 
 use activepauli::ActivePauli;
-use bits::HighestBit;
 use complex::Complex64;
 use paulis::PauliString;
+use refusals::{Row, refuse_if};
 
 // A Hermitian Pauli reduced to the single-word masks the kernels consume.
 //
@@ -36,12 +37,6 @@ pub struct ActivePauliAction {
     pub xz_overlap_odd: bool,
 }
 
-#[derive(Clone, Copy)]
-pub enum ActionAnswer {
-    Action(ActivePauliAction),
-    Refused(u8),
-}
-
 // Everything c - i s P needs. `pair_bit` is the highest set bit of `xmask`, 0 where there is none;
 // `minus_even_coefficient` is m = (+0, -s) times i^phase.
 #[repr(C)]
@@ -54,12 +49,6 @@ pub struct PrecomputedActivePauliRotationKernel {
     pub cos_kernel_angle: f64,
     pub sin_kernel_angle: f64,
     pub minus_even_coefficient: Complex64,
-}
-
-#[derive(Clone, Copy)]
-pub enum RotationKernelAnswer {
-    Kernel(PrecomputedActivePauliRotationKernel),
-    Refused(u8),
 }
 
 // Everything the probability of a branch of P and the projection on it need. `pivot` names the qubit
@@ -77,35 +66,15 @@ pub struct PrecomputedActivePauliMeasurementKernel {
     pub nondiagonal_coefficient1_even: Complex64,
 }
 
-#[derive(Clone, Copy)]
-pub enum MeasurementKernelAnswer {
-    Kernel(PrecomputedActivePauliMeasurementKernel),
-    Refused(u8),
-}
-
 impl ActivePauliAction {
     // Refused by 3, by 6 past 62 qubits and by 7 where the Pauli is not Hermitian.
-    pub fn new(pauli: PauliString) -> ActionAnswer
-        ensures { action_answer_of result ≡ answered (action_row (pauli_of pauli)) (pauli_action (pauli_of pauli)) }
+    pub fn new(pauli: PauliString) -> Result<ActivePauliAction, Row>
+        ensures { answer_of action_of result ≡ answered (action_row (pauli_of pauli)) (pauli_action (pauli_of pauli)) }
     {
-        if !pauli.is_pauli() {
-            return ActionAnswer::Refused(3);
-        }
-        let x = pauli.x;
-        let z = pauli.z;
-        let xmask = x[0];
-        let zmask = z[0];
-        let active = ActivePauli {
-            nqubits: pauli.nqubits,
-            x: xmask,
-            z: zmask,
-            phase: pauli.phase,
-        };
-        let row = rows::hermitian_row(active, rows::WIDEST_ACTION);
-        if row != 0 {
-            return ActionAnswer::Refused(row);
-        }
-        ActionAnswer::Action(action(active))
+        refuse_if(!pauli.is_pauli(), Row::NoPauli)?;
+        let active = ActivePauli::lowest_words(pauli);
+        rows::hermitian_row(active, rows::WIDEST_ACTION)?;
+        Ok(action(active))
     }
 }
 
@@ -126,15 +95,16 @@ fn action(pauli: ActivePauli) -> ActivePauliAction
 
 impl PrecomputedActivePauliRotationKernel {
     // The cosine and the sine come from the caller. Refused by 3, by 6 past 61 qubits, by 7 and 8.
-    pub fn new(pauli: ActivePauli, c: f64, s: f64) -> RotationKernelAnswer
+    pub fn new(
+        pauli: ActivePauli,
+        c: f64,
+        s: f64,
+    ) -> Result<PrecomputedActivePauliRotationKernel, Row>
         ensures { let P = active_of pauli in
-            rotation_kernel_answer_of result ≡ answered (rotation_kernel_row P c s) (rotation_kernel P c s) }
+            answer_of rotation_kernel_of result ≡ answered (rotation_kernel_row P c s) (rotation_kernel P c s) }
     {
-        let row = rows::rotation_row(pauli, c, s);
-        if row != 0 {
-            return RotationKernelAnswer::Refused(row);
-        }
-        RotationKernelAnswer::Kernel(rotation_kernel(pauli, c, s))
+        rows::rotation_row(pauli, c, s)?;
+        Ok(rotation_kernel(pauli, c, s))
     }
 }
 
@@ -157,24 +127,26 @@ fn rotation_kernel(pauli: ActivePauli, c: f64, s: f64) -> PrecomputedActivePauli
 
 impl PrecomputedActivePauliMeasurementKernel {
     // Picks the pivot: the highest X qubit, else the highest Z qubit.
-    pub fn from_pauli(pauli: ActivePauli) -> MeasurementKernelAnswer
+    pub fn from_pauli(pauli: ActivePauli) -> Result<PrecomputedActivePauliMeasurementKernel, Row>
         ensures { let M = active_of pauli in
             let p = default_pivot M in
-            measurement_kernel_answer_of result ≡ answered (measurement_row M p false) (measurement_kernel M p) }
+            answer_of measurement_kernel_of result ≡ answered (measurement_row M p false) (measurement_kernel M p) }
     {
-        PrecomputedActivePauliMeasurementKernel::with_pivot(pauli, default_pivot(pauli))
+        // A Pauli with a bit at or above its width is refused whatever the pivot is.
+        let pivot = highest_or_zero(rows::pivot_mask(pauli));
+        PrecomputedActivePauliMeasurementKernel::with_pivot(pauli, pivot)
     }
 
     // Refused by 3, by 6 past 61 qubits, by 7 and by 9 to 12.
-    pub fn with_pivot(pauli: ActivePauli, pivot: usize) -> MeasurementKernelAnswer
+    pub fn with_pivot(
+        pauli: ActivePauli,
+        pivot: usize,
+    ) -> Result<PrecomputedActivePauliMeasurementKernel, Row>
         ensures { let M = active_of pauli in
-            measurement_kernel_answer_of result ≡ answered (measurement_row M pivot false) (measurement_kernel M pivot) }
+            answer_of measurement_kernel_of result ≡ answered (measurement_row M pivot false) (measurement_kernel M pivot) }
     {
-        let row = rows::measurement_row(pauli, pivot, false);
-        if row != 0 {
-            return MeasurementKernelAnswer::Refused(row);
-        }
-        MeasurementKernelAnswer::Kernel(measurement_kernel(pauli, pivot))
+        rows::measurement_row(pauli, pivot, false)?;
+        Ok(measurement_kernel(pauli, pivot))
     }
 }
 
@@ -198,22 +170,9 @@ fn measurement_kernel(pauli: ActivePauli, pivot: usize) -> PrecomputedActivePaul
     }
 }
 
-// The pivot that is taken where none is given. A Pauli with a bit at or above its width is refused whatever this is.
-fn default_pivot(pauli: ActivePauli) -> usize
-    ensures { result ≡ highest_or_zero 64 (pivot_mask (active_of pauli)) }
-{
-    if pauli.x == 0 {
-        return highest_or_zero(pauli.z);
-    }
-    highest_or_zero(pauli.x)
-}
-
 // The highest set bit of a word, 0 where none is.
 fn highest_or_zero(word: u64) -> usize
     ensures { result ≡ highest_or_zero 64 word }
 {
-    let HighestBit::Bit(place) = bits::highest_bit(word) else {
-        return 0;
-    };
-    place
+    bits::highest_bit(word).unwrap_or(0)
 }

@@ -3,7 +3,6 @@ use Prim.Native.Nat.{◌%◌}
 use native.Mathlib.Omega.{arith}
 use Rattle.kernels.specs.Kernel.{pauli_action}
 use Rattle.bitlaws.specs.Parity.{overlap}
-use borrow.Author.Rules.{rules}
 use Rattle.kernels.proofs.action.Goals as goal
 
 pub returns : goal.returns

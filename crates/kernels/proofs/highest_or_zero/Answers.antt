@@ -1,13 +1,14 @@
-use mathlib.Core.Path.{sym, ap, ◌∙◌}
-use Rattle.bits.specs.Highest.{highest_bit_of}
+use mathlib.Core.Path.{◌≡◌, refl, ap, ◌∙◌}
+use Prim.Native.Nat.{ℕ}
+use Rattle.std.specs.Prelude.{Option, Some, None, unwrap_or}
+use Rattle.refusals.specs.Optional.{option_of}
 use Rattle.kernels.specs.Kernel.{or_zero, highest_or_zero}
-use borrow.Author.Rules.{rules}
 use Rattle.kernels.proofs.highest_or_zero.Goals as goal
 
-pub returns-in_default : goal.returns-in_default
-unfolding highest_or_zero
-returns-in_default c = ap or_zero (ap highest_bit_of (sym c.in_default.is) ∙ c.highest_bit.ensures)
+none_zero : (o : Option ℕ) → unwrap_or o 0 ≡ or_zero (option_of o)
+none_zero None = refl
+none_zero (Some q) = refl
 
 pub returns : goal.returns
 unfolding highest_or_zero
-returns c = ap or_zero (ap highest_bit_of (sym c.in-Bit.is) ∙ c.highest_bit.ensures)
+returns c = c.unwrap_or.ensures ∙ none_zero c.highest_bit.result ∙ ap or_zero c.highest_bit.ensures

@@ -5,7 +5,6 @@ use lib.Ieee.{nan_bits}
 use Rattle.bitlaws.specs.Digit.{one_shifted}
 use Rattle.amplitudelaws.specs.Projection.{projection_coefficient}
 use Rattle.kernels.specs.Kernel.{Action, pauli_action, measurement_kernel}
-use borrow.Author.Rules.{rules}
 use Rattle.kernels.proofs.measurement_kernel.Goals as goal
 
 pub float_from_bits-h : goal.float_from_bits-h

@@ -1,85 +1,80 @@
--- Up to width 62 the first words are the masks, so the one_word Pauli is the one that was given; past it both are refused by 6.
--- where the rows have been looked at
-use mathlib.Core.Path.{◌≡◌, refl, sym, ap, ◌∙◌}
+-- Up to width 62 a Pauli is the one with the lowest word of each mask; past it both are refused by 6.
+use mathlib.Core.Path.{◌≡◌, sym, ap, ◌∙◌}
+use mathlib.Core.Bool.{true, not}
 use mathlib.Core.Logic.{⊎_elim}
 use Prim.Native.Nat.{◌≤◌, ◌<◌}
-use Rattle.bitlaws.specs.Order.{le_or_lt}
 use native.Mathlib.Omega.{arith}
-use lib.ListN.{get_or}
-use borrow.Author.Tests.{lt-ltb}
-use mir.Val.{Fits}
-use mir.Syntax.{w64}
+use borrow.Author.Tests.{lt-ltb, not-false}
 use Rattle.answers.specs.Answer.Answer.{accepted}
-use Rattle.answers.specs.Row.{row, first, answered, answered_some, answered_none}
-use Rattle.masks.specs.MaskLaws.{Small}
-use Rattle.paulilaws.specs.Pauli.{Pauli, same}
-use Rattle.paulilaws.specs.Fitting.{Admitted, admitted_beside}
-use Rattle.paulilaws.proofs.Fitting.{admitted_fits}
-use Rattle.paulis.specs.Rows.{admitted}
+use Rattle.answers.specs.Row.{row, first, answered_none}
+use Rattle.bitlaws.specs.Order.{le_or_lt}
+use Rattle.paulilaws.specs.Pauli.{Pauli, fits}
+use Rattle.paulilaws.specs.Fitting.{Fitting}
+use Rattle.paulilaws.proofs.Fitting.{fits_fitting}
+use Rattle.refusals.specs.Refusal.{number_of}
+use Rattle.refusals.proofs.Asked.{asked}
+use Rattle.paulis.proofs.Told.{row_refuses, row_passes}
 use Rattle.paulis.specs.Strings.{pauli_of}
-use Rattle.paulis.specs.declared.PauliString.{PauliString}
+use Rattle.activepauli.specs.Active.{active_of}
+use Rattle.activepauli.specs.Narrowed.{narrowed, narrowed_small, narrowed_fits}
 use Rattle.amplitudelaws.specs.Rows.{width_row, hermitian_row, action_row}
 use Rattle.amplitudelaws.specs.Passed.{hermitian_passed}
-use Rattle.kernels.specs.Kernel.{pauli_action}
-use Rattle.kernels.proofs.OneWord.{one_word, first_below}
-use mathlib.Core.Bool.{not}
-use borrow.Author.Rules.{rules}
+use Rattle.kernels.specs.Kernel.{action_of, pauli_action}
 use Rattle.kernels.proofs.ActivePauliAction.new.Goals as goal
-use Rattle.kernels.proofs.ActivePauliAction.new.Goals.{After-hermitian_row-row}
+use Rattle.kernels.proofs.ActivePauliAction.new.Goals.{After-hermitian_row}
 
-abbrev narrow : PauliString → Pauli
-narrow p = record { n = p.nqubits; k = p.phase; x = get_or p.x 0 0; z = get_or p.z 0 0 }
+module _ (P : Pauli) (is : fits P ≡ true) where
+  past : 63 ≤ P.n → hermitian_row 62 (narrowed P) ≡ action_row P
+  unfolding narrowed action_row hermitian_row width_row row first
+  past h = rw (narrowed_fits P (fits_fitting P is) ∙ is, is, lt-ltb 62 P.n (omega arith))
 
-module _ (p : PauliString) (fit : Admitted (pauli_of p)) (xs : Small p.x) (zs : Small p.z) where
-  whole : p.nqubits ≤ 62 → narrow p ≡ pauli_of p
-  whole h =
-      same refl refl (one_word p.x xs p.nqubits fit.fitting.xs (omega arith)) (one_word p.z zs p.nqubits fit.fitting.zs (omega arith))
-
-  narrow_admitted : Admitted (narrow p)
-  narrow_admitted =
-      admitted_beside fit refl (record { phase = fit.fitting.phase; xs = first_below p.x xs p.nqubits fit.fitting.xs; zs = first_below p.z zs p.nqubits fit.fitting.zs })
-
-  past : 63 ≤ p.nqubits → hermitian_row 62 (narrow p) ≡ action_row (pauli_of p)
-  unfolding action_row hermitian_row width_row row first
-  past h = rw (admitted_fits (narrow p) narrow_admitted, admitted_fits (pauli_of p) fit, lt-ltb 62 p.nqubits (omega arith))
-
-  narrow_row : hermitian_row 62 (narrow p) ≡ action_row (pauli_of p)
+  narrowed_row : hermitian_row 62 (narrowed P) ≡ action_row P
   unfolding action_row
-  narrow_row = ⊎_elim past up_to (le_or_lt 63 p.nqubits)
+  narrowed_row = ⊎_elim past up_to (le_or_lt 63 P.n)
     where
-      up_to : p.nqubits < 63 → hermitian_row 62 (narrow p) ≡ action_row (pauli_of p)
-      up_to h = ap (hermitian_row 62) (whole (omega arith))
+      up_to : P.n < 63 → hermitian_row 62 (narrowed P) ≡ action_row P
+      up_to h = ap (hermitian_row 62) (narrowed_small P (fits_fitting P is) (omega arith))
 
-pub returns-then-not-is_pauli : goal.returns-then-not-is_pauli
-unfolding answered action_row hermitian_row width_row row first
-returns-then-not-is_pauli c = rw (← c.is_pauli.ensures, (ap not c.if-not-is_pauli.true))
+pub returns-in_err-refuse_if : goal.returns-in_err-refuse_if
+unfolding action_row hermitian_row width_row row first
+returns-in_err-refuse_if c =
+    let P = pauli_of c.args.pauli in
+    let e = c.in_err-refuse_if.field-0.0 in
+    let three = row_refuses (not c.is_pauli.result) 3 e c.in_err-refuse_if.ensures in
+    let is : number_of e ≡ action_row P = rw (← c.is_pauli.ensures, three.0) three.1 in
+    asked _ _ (action_row P) action_of (pauli_action P) c.from_residual.ensures.1 is
 
-module _ (c : After-hermitian_row-row) where
-  abbrev given : PauliString
-  given = c.args.pauli
+module _ (c : After-hermitian_row) where
+  abbrev given : Pauli
+  given = pauli_of c.args.pauli
 
-  fit : Admitted (pauli_of given)
-  fit = admitted (pauli_of given) c.is_pauli.ensures (ap not c.if-not-is_pauli.false)
+  fit : fits given ≡ true
+  fit = sym c.is_pauli.ensures ∙ not-false _ (row_passes (not c.is_pauli.result) 3 (omega arith) c.in_ok-refuse_if.ensures)
 
-  small_x : Small given.x
-  small_x i = let f : Fits w64 (get_or given.x i 0) = search rules in f.fits
+  same_row : hermitian_row 62 (active_of c.lowest_words-active.result) ≡ action_row given
+  same_row = ap (hermitian_row 62) c.lowest_words-active.ensures ∙ narrowed_row given fit
 
-  small_z : Small given.z
-  small_z i = let f : Fits w64 (get_or given.z i 0) = search rules in f.fits
+pub returns-in_err-hermitian_row : goal.returns-in_err-hermitian_row
+returns-in_err-hermitian_row c =
+    let is = c.in_err-hermitian_row.ensures ∙ same_row (goal.at.returns-in_err-hermitian_row c).After-hermitian_row in
+    asked _ _ _ action_of _ c.from_residual-in_err-hermitian_row.ensures.1 is
 
-  rows : c.hermitian_row-row.result ≡ action_row (pauli_of given)
-  rows = c.hermitian_row-row.ensures ∙ narrow_row given fit small_x small_z
-
-pub returns-then-row-ne0 : goal.returns-then-row-ne0
-returns-then-row-ne0 c = rw (← rows (goal.at.returns-then-row-ne0 c).After-hermitian_row-row) (sym (answered_some c.hermitian_row-row.result _ (omega arith)))
+passed : (P : Pauli) → 0 ≡ action_row P → Fitting P × (P.n ≤ 62)
+unfolding action_row
+passed P none = hermitian_passed 62 P (sym none)
 
 pub action-requires : goal.action-requires
-action-requires c = (fit (goal.at.action-requires c).After-hermitian_row-row).fitting.phase
+unfolding narrowed
+action-requires c =
+    let none = c.in_ok-hermitian_row.ensures ∙ same_row (goal.at.action-requires c).After-hermitian_row in
+    let phase = ap (λ (A : Pauli). A.k) c.lowest_words-active.ensures in
+    omega (arith, phase, (passed (pauli_of c.args.pauli) none).0.phase)
 
 pub returns : goal.returns
 returns c =
-    let none : hermitian_row 62 (narrow (given (goal.at.returns c).After-hermitian_row-row)) ≡ 0 = sym c.hermitian_row-row.ensures ∙ c.if-row-ne0.false in
-    let slim : (given (goal.at.returns c).After-hermitian_row-row).nqubits ≤ 62 = (hermitian_passed 62 (narrow (given (goal.at.returns c).After-hermitian_row-row)) none).1 in
-    let same : narrow (given (goal.at.returns c).After-hermitian_row-row) ≡ pauli_of (given (goal.at.returns c).After-hermitian_row-row) = whole (given (goal.at.returns c).After-hermitian_row-row) (fit (goal.at.returns c).After-hermitian_row-row) (small_x (goal.at.returns c).After-hermitian_row-row) (small_z (goal.at.returns c).After-hermitian_row-row) slim in
-    ap accepted (c.action.ensures ∙ ap pauli_action same)
-    ∙ sym (answered_none (action_row (pauli_of (given (goal.at.returns c).After-hermitian_row-row))) _ (sym (rows (goal.at.returns c).After-hermitian_row-row) ∙ c.if-row-ne0.false))
+    let P = pauli_of c.args.pauli in
+    let none = c.in_ok-hermitian_row.ensures ∙ same_row (goal.at.returns c).After-hermitian_row in
+    let few = passed P none in
+    let small = narrowed_small P few.0 (omega (arith, few.1)) in
+    ap accepted (c.action.ensures ∙ ap pauli_action (c.lowest_words-active.ensures ∙ small))
+    ∙ sym (answered_none (action_row P) (pauli_action P) (sym none))

@@ -3,6 +3,7 @@ use Rattle.std.specs.Prelude.{Bool, not, ℕ, leb, ltb, eqb}
 use Rattle.std.proofs.Math.Option.{Option}
 use Rattle.answers.specs.Answer.{Answer, refuse}
 use Rattle.answers.specs.Answer.Answer.{accepted}
+use Rattle.answers.specs.Row.{row}
 use Rattle.bitlaws.specs.Digit.{digit}
 use Rattle.paulilaws.specs.Pauli.{Pauli, fits, identity, most_qubits}
 use Rattle.paulilaws.specs.Letter.{Letter, letter_at, with_letter}
@@ -16,6 +17,10 @@ on_pauli P rest = refuse (not (fits P)) 3 rest
 unfoldable pub on_qubit : {A : Type 0} → Pauli → ℕ → Answer A → Answer A
 unfolding on_pauli
 on_qubit P q rest = on_pauli P (refuse (leb P.n q) 5 rest)
+
+-- the row that refuses on_qubit, 0 where none does
+unfoldable pub qubit_row : Pauli → ℕ → ℕ
+qubit_row P q = row (not (fits P)) 3 (row (leb P.n q) 5 0)
 
 unfoldable pub identity_call : ℕ → Answer Pauli
 identity_call n = refuse (ltb most_qubits n) 3 (accepted (identity n))

@@ -1,13 +1,14 @@
 -- Which row of the table answers a call, from the tests that the code makes.
-use Rattle.std.specs.Prelude.{◌≡◌, Bool, true, false, not, ℕ, ◌≤◌, ◌<◌, leb}
-use Rattle.std.proofs.Common.{sym, ◌∙◌, le-leb}
+use Rattle.std.specs.Prelude.{◌≡◌, refl, Bool, true, false, not, ℕ, ◌≤◌, ◌<◌, leb}
+use Rattle.std.proofs.Common.{sym, ◌∙◌, le-leb, leb-false, arith}
 use Rattle.std.proofs.lemmas.Bool.{lt-leb, not-false}
 use Rattle.answers.specs.Answer.{Answer, refuse}
-use Rattle.answers.specs.Answer.Answer.{refused}
+use Rattle.answers.specs.Answer.Answer.{accepted, refused}
+use Rattle.answers.specs.Row.{row, answered, row_passed}
 use Rattle.paulilaws.specs.Pauli.{Pauli, fits}
 use Rattle.paulilaws.specs.Fitting.{Admitted}
 use Rattle.paulilaws.proofs.Fitting.{fits_admitted}
-use Rattle.paulis.specs.Calls.{on_pauli, on_qubit}
+use Rattle.paulis.specs.Calls.{on_pauli, on_qubit, qubit_row}
 
 module _ {A : Type 0} (P : Pauli) (rest : Answer A) {t : Bool} (is : t ≡ fits P) where
   pub no_pauli : not t ≡ true → on_pauli P rest ≡ refused 3
@@ -35,3 +36,20 @@ module _ {A : Type 0} (P : Pauli) (q : ℕ) (rest : Answer A) {t : Bool} (is : t
   pub a_qubit : not t ≡ false → q < P.n → on_qubit P q rest ≡ rest
   unfolding on_qubit refuse
   a_qubit h l = a_pauli P (refuse (leb P.n q) 5 rest) is h ∙ rw (lt-leb P.n q l)
+
+-- the same from the row alone
+module _ (P : Pauli) (q : ℕ) where
+  pub on_qubit_row : {A : Type 0} (a : A) → on_qubit P q (accepted a) ≡ answered (qubit_row P q) a
+  unfolding on_qubit on_pauli refuse qubit_row row answered
+  on_qubit_row {A} a = go (fits P) (leb P.n q)
+    where
+      go : (f l : Bool) → refuse (not f) 3 (refuse l 5 (accepted a)) ≡ answered (row (not f) 3 (row l 5 0)) a
+      go false l = refl
+      go true false = refl
+      go true true = refl
+
+  pub qubit_passed : qubit_row P q ≡ 0 → Admitted P × (q < P.n)
+  unfolding qubit_row
+  qubit_passed e =
+      let seen = row_passed (not (fits P)) 3 (row (leb P.n q) 5 0) (omega arith) e in
+      (admitted P {t = fits P} refl seen.0, leb-false P.n q (row_passed (leb P.n q) 5 0 (omega arith) seen.1).0)

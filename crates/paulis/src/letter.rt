@@ -14,12 +14,7 @@ use refusals::Row;
 pub(crate) fn mask_bit(pauli: PauliString, words: [u64; 4], q: usize) -> Result<bool, Row>
     ensures { answer_of (λ b. b) result ≡ bit_call (pauli_of pauli) (mask words) q }
 {
-    if !pauli.is_pauli() {
-        return Err(Row::NoPauli);
-    }
-    if pauli.nqubits <= q {
-        return Err(Row::NoSuchQubit);
-    }
+    pauli.has_qubit(q)?;
     Ok(masks::packed_bit(words, q))
 }
 
@@ -27,9 +22,7 @@ pub(crate) fn mask_bit(pauli: PauliString, words: [u64; 4], q: usize) -> Result<
 pub(crate) fn at(pauli: PauliString, q: usize) -> Pauli
     ensures { pauli_letter_of result ≡ book.letter_at q (pauli_of pauli) }
 {
-    let x = pauli.x;
-    let z = pauli.z;
-    from_bits(masks::packed_bit(x, q), masks::packed_bit(z, q))
+    from_bits(masks::packed_bit(pauli.x, q), masks::packed_bit(pauli.z, q))
 }
 
 // The Pauli with qubit q's letter set. k gains 1 for a new Y and loses 1, which is 3 modulo 4, for
@@ -38,13 +31,11 @@ pub(crate) fn with(pauli: PauliString, q: usize, letter: Pauli) -> PauliString
     requires { (q < 256) × (pauli.phase ≤ 3) }
     ensures { pauli_of result ≡ book.with_letter q (pauli_letter_of letter) (pauli_of pauli) }
 {
-    let x = pauli.x;
-    let z = pauli.z;
     let was_y = is_y(at(pauli, q));
     PauliString {
         nqubits: pauli.nqubits,
-        x: masks::set_packed_bit(x, q, x_part(letter)),
-        z: masks::set_packed_bit(z, q, z_part(letter)),
+        x: masks::set_packed_bit(pauli.x, q, x_part(letter)),
+        z: masks::set_packed_bit(pauli.z, q, z_part(letter)),
         phase: (pauli.phase + is_y(letter) + 3 * was_y) % 4,
     }
 }
@@ -52,43 +43,29 @@ pub(crate) fn with(pauli: PauliString, q: usize, letter: Pauli) -> PauliString
 fn from_bits(x: bool, z: bool) -> Pauli
     ensures { pauli_letter_of result ≡ book.letter_of (bit_of x) (bit_of z) }
 {
-    if x {
-        if z { Pauli::Y } else { Pauli::X }
-    } else {
-        if z { Pauli::Z } else { Pauli::I }
+    match (x, z) {
+        (false, false) => Pauli::I,
+        (true, false) => Pauli::X,
+        (false, true) => Pauli::Z,
+        (true, true) => Pauli::Y,
     }
 }
 
 fn x_part(letter: Pauli) -> bool
     ensures { bit_of result ≡ book.x_part (pauli_letter_of letter) }
 {
-    match letter {
-        Pauli::I => false,
-        Pauli::X => true,
-        Pauli::Z => false,
-        Pauli::Y => true,
-    }
+    matches!(letter, Pauli::X | Pauli::Y)
 }
 
 fn z_part(letter: Pauli) -> bool
     ensures { bit_of result ≡ book.z_part (pauli_letter_of letter) }
 {
-    match letter {
-        Pauli::I => false,
-        Pauli::X => false,
-        Pauli::Z => true,
-        Pauli::Y => true,
-    }
+    matches!(letter, Pauli::Z | Pauli::Y)
 }
 
 // 1 for Y, else 0.
 fn is_y(letter: Pauli) -> u8
     ensures { (result ≡ book.is_y (pauli_letter_of letter)) × (result ≤ 1) }
 {
-    match letter {
-        Pauli::I => 0,
-        Pauli::X => 0,
-        Pauli::Z => 0,
-        Pauli::Y => 1,
-    }
+    u8::from(matches!(letter, Pauli::Y))
 }

@@ -13,9 +13,9 @@ ghost use Rattle.paulilaws.specs.Pauli as book;
 ghost use Rattle.paulilaws.specs.Pauli.{fits};
 ghost use Rattle.masks.specs.Mask.{mask};
 ghost use Rattle.refusals.specs.Optional.{option_of};
-ghost use Rattle.refusals.specs.Refusal.{answer_of};
+ghost use Rattle.refusals.specs.Refusal.{answer_of, row_of};
 ghost use Rattle.paulis.specs.Strings.{pauli_of, pauli_letter_of};
-ghost use Rattle.paulis.specs.Calls.{identity_call, parts_call, bit_call, get_call, set_call, support_call};
+ghost use Rattle.paulis.specs.Calls.{qubit_row, identity_call, parts_call, bit_call, get_call, set_call, support_call};
 
 use refusals::Row;
 
@@ -95,30 +95,12 @@ impl PauliString {
         if MOST_QUBITS < self.nqubits {
             return false;
         }
-        let x = self.x;
-        let z = self.z;
-        masks::mask_fits(x, self.nqubits) & masks::mask_fits(z, self.nqubits)
+        masks::mask_fits(self.x, self.nqubits) & masks::mask_fits(self.z, self.nqubits)
     }
 
-    // Whether qubit `q` has an X component.
-    pub fn x_bit(self, q: usize) -> Result<bool, Row>
-        ensures { answer_of (λ b. b) result ≡ bit_call (pauli_of self) (mask self.x) q }
-    {
-        let words = self.x;
-        letter::mask_bit(self, words, q)
-    }
-
-    // Whether qubit `q` has a Z component.
-    pub fn z_bit(self, q: usize) -> Result<bool, Row>
-        ensures { answer_of (λ b. b) result ≡ bit_call (pauli_of self) (mask self.z) q }
-    {
-        let words = self.z;
-        letter::mask_bit(self, words, q)
-    }
-
-    // The single-qubit Pauli acting on `q`.
-    pub fn get(self, q: usize) -> Result<Pauli, Row>
-        ensures { answer_of pauli_letter_of result ≡ get_call (pauli_of self) q }
+    // Refused where the fields are no Pauli, or one that has no qubit `q`.
+    fn has_qubit(self, q: usize) -> Result<(), Row>
+        ensures { row_of result ≡ qubit_row (pauli_of self) q }
     {
         if !self.is_pauli() {
             return Err(Row::NoPauli);
@@ -126,6 +108,28 @@ impl PauliString {
         if self.nqubits <= q {
             return Err(Row::NoSuchQubit);
         }
+        Ok(())
+    }
+
+    // Whether qubit `q` has an X component.
+    pub fn x_bit(self, q: usize) -> Result<bool, Row>
+        ensures { answer_of (λ b. b) result ≡ bit_call (pauli_of self) (mask self.x) q }
+    {
+        letter::mask_bit(self, self.x, q)
+    }
+
+    // Whether qubit `q` has a Z component.
+    pub fn z_bit(self, q: usize) -> Result<bool, Row>
+        ensures { answer_of (λ b. b) result ≡ bit_call (pauli_of self) (mask self.z) q }
+    {
+        letter::mask_bit(self, self.z, q)
+    }
+
+    // The single-qubit Pauli acting on `q`.
+    pub fn get(self, q: usize) -> Result<Pauli, Row>
+        ensures { answer_of pauli_letter_of result ≡ get_call (pauli_of self) q }
+    {
+        self.has_qubit(q)?;
         Ok(letter::at(self, q))
     }
 
@@ -134,12 +138,7 @@ impl PauliString {
     pub fn set(self, q: usize, pauli: Pauli) -> Result<PauliString, Row>
         ensures { answer_of pauli_of result ≡ set_call (pauli_of self) q (pauli_letter_of pauli) }
     {
-        if !self.is_pauli() {
-            return Err(Row::NoPauli);
-        }
-        if self.nqubits <= q {
-            return Err(Row::NoSuchQubit);
-        }
+        self.has_qubit(q)?;
         Ok(letter::with(self, q, pauli))
     }
 
@@ -150,9 +149,7 @@ impl PauliString {
         if !self.is_pauli() {
             return Err(Row::NoPauli);
         }
-        let x = self.x;
-        let z = self.z;
-        Ok(support::highest_bit(x, z))
+        Ok(support::highest_bit(self.x, self.z))
     }
 }
 

@@ -3,7 +3,6 @@ use native.Mathlib.Omega.{arith}
 use Prim.Native.Nat.{◌*◌, ◌%◌, ◌^◌}
 use Rattle.bitlaws.specs.Digit.{one_shifted}
 use Rattle.bitlaws.specs.Writing.{or_put, put_one}
-use borrow.Author.Rules.{rules}
 use Rattle.masks.proofs.word_with_bit.Goals as goal
 
 pub overflow_sub-result : goal.overflow_sub-result

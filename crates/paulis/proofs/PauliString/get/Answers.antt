@@ -1,30 +1,23 @@
-use mathlib.Core.Path.{sym, ap, ◌∙◌}
+use Rattle.std.proofs.Common.{sym, ap, ◌∙◌}
 use Rattle.answers.specs.Answer.Answer.{accepted}
-use Rattle.paulis.specs.Calls.{get_call}
-use Rattle.paulis.specs.Rows.{no_pauli_qubit, no_qubit, a_qubit}
+use Rattle.answers.specs.Row.{answered_none}
+use Rattle.refusals.proofs.Asked.{asked}
 use Rattle.paulilaws.specs.Letter.{letter_at}
-use Rattle.paulis.specs.Strings.{pauli_of}
-use mathlib.Core.Bool.{not}
+use Rattle.paulis.specs.Calls.{qubit_row, get_call}
+use Rattle.paulis.specs.Rows.{on_qubit_row}
+use Rattle.paulis.specs.Strings.{pauli_of, pauli_letter_of}
 use Rattle.paulis.proofs.PauliString.get.Goals as goal
 
-pub returns-then-not-is_pauli : goal.returns-then-not-is_pauli
+pub returns-in_err-has_qubit : goal.returns-in_err-has_qubit
 unfolding get_call
-returns-then-not-is_pauli c =
-    let a = c.args in
-    let P = pauli_of a.self in
-    sym (no_pauli_qubit P a.q (accepted (letter_at a.q P)) c.is_pauli.ensures (ap not c.if-not-is_pauli.true))
-
-pub returns-then-self-q : goal.returns-then-self-q
-unfolding get_call
-returns-then-self-q c =
-    let a = c.args in
-    let P = pauli_of a.self in
-    sym (no_qubit P a.q (accepted (letter_at a.q P)) c.is_pauli.ensures (ap not c.if-not-is_pauli.false) c.if-self-q.true)
+returns-in_err-has_qubit c =
+    let P = pauli_of c.args.self in
+    let q = c.args.q in
+    asked _ _ _ pauli_letter_of (letter_at q P) c.from_residual.ensures.1 c.in_err-has_qubit.ensures ∙ sym (on_qubit_row P q (letter_at q P))
 
 pub returns : goal.returns
 unfolding get_call
 returns c =
-    let a = c.args in
-    let P = pauli_of a.self in
-    ap accepted c.at.ensures
-    ∙ sym (a_qubit P a.q (accepted (letter_at a.q P)) c.is_pauli.ensures (ap not c.if-not-is_pauli.false) c.if-self-q.false)
+    let P = pauli_of c.args.self in
+    let q = c.args.q in
+    ap accepted c.at.ensures ∙ sym (on_qubit_row P q (letter_at q P) ∙ answered_none (qubit_row P q) _ (sym c.in_ok-has_qubit.ensures))

@@ -1,36 +1,30 @@
+use Rattle.std.proofs.Common.{sym, ap, ◌∙◌, arith}
 use Rattle.answers.specs.Answer.Answer.{accepted}
-use Rattle.paulis.specs.Calls.{set_call}
-use Rattle.paulis.specs.Rows.{no_pauli_qubit, no_qubit, a_qubit, admitted}
+use Rattle.answers.specs.Row.{answered_none}
+use Rattle.refusals.proofs.Asked.{asked}
 use Rattle.paulilaws.specs.Letter.{with_letter}
+use Rattle.paulis.specs.Calls.{qubit_row, set_call}
+use Rattle.paulis.specs.Rows.{on_qubit_row, qubit_passed}
 use Rattle.paulis.specs.Strings.{pauli_of, pauli_letter_of}
-use native.Mathlib.Omega.{arith}
-use mathlib.Core.Bool.{not}
-use mathlib.Core.Path.{sym, ap, ◌∙◌}
 use Rattle.paulis.proofs.PauliString.set.Goals as goal
 
-pub returns-then-not-is_pauli : goal.returns-then-not-is_pauli
+pub returns-in_err-has_qubit : goal.returns-in_err-has_qubit
 unfolding set_call
-returns-then-not-is_pauli c =
-    let a = c.args in
-    let P = pauli_of a.self in
-    sym (no_pauli_qubit P a.q (accepted (with_letter a.q (pauli_letter_of a.pauli) P)) c.is_pauli.ensures (ap not c.if-not-is_pauli.true))
-
-pub returns-then-self-q : goal.returns-then-self-q
-unfolding set_call
-returns-then-self-q c =
-    let a = c.args in
-    let P = pauli_of a.self in
-    sym (no_qubit P a.q (accepted (with_letter a.q (pauli_letter_of a.pauli) P)) c.is_pauli.ensures (ap not c.if-not-is_pauli.false) c.if-self-q.true)
+returns-in_err-has_qubit c =
+    let P = pauli_of c.args.self in
+    let q = c.args.q in
+    let set = with_letter q (pauli_letter_of c.args.pauli) P in
+    asked _ _ _ pauli_of set c.from_residual.ensures.1 c.in_err-has_qubit.ensures ∙ sym (on_qubit_row P q set)
 
 pub with-requires : goal.with-requires
 with-requires c =
-    let a = admitted (pauli_of c.args.self) c.is_pauli.ensures (ap not c.if-not-is_pauli.false) in
-    (omega (arith, a.width), a.fitting.phase)
+    let passed = qubit_passed (pauli_of c.args.self) c.args.q (sym c.in_ok-has_qubit.ensures) in
+    (omega (arith, passed.0.width), passed.0.fitting.phase)
 
 pub returns : goal.returns
 unfolding set_call
 returns c =
-    let a = c.args in
-    let P = pauli_of a.self in
+    let P = pauli_of c.args.self in
+    let q = c.args.q in
     ap accepted c.with.ensures
-    ∙ sym (a_qubit P a.q (accepted (with_letter a.q (pauli_letter_of a.pauli) P)) c.is_pauli.ensures (ap not c.if-not-is_pauli.false) c.if-self-q.false)
+    ∙ sym (on_qubit_row P q (with_letter q (pauli_letter_of c.args.pauli) P) ∙ answered_none (qubit_row P q) _ (sym c.in_ok-has_qubit.ensures))

@@ -3,67 +3,50 @@
 // the index of the byte where the refusal has one. At most 65,536 bytes are read.
 #![tactic(auto)]
 
-mod line;
-mod output;
+use refusals::Refusal;
+use std::io::Print;
 
-use paulis::Outcome;
-use paulitext::{ReadAnswer, Reading};
-
-// The C library's number of standard input.
+// The C library's numbers of standard input and output.
 const STDIN_FILENO: i32 = 0;
 
-// The product of two texts, or what refused: the left text, then the right one, then the product.
-fn product(left: &[u8], right: &[u8]) -> ReadAnswer {
-    let l = paulitext::pauli_string(left);
-    let l_reading = l.reading;
-    let Reading::Done = l_reading else {
-        return l;
-    };
-    let r = paulitext::pauli_string(right);
-    let r_reading = r.reading;
-    let Reading::Done = r_reading else {
-        return r;
-    };
-    let a = l.pauli;
-    let b = r.pauli;
-    let made = pauligroup::mul(a, b);
-    let outcome = made.outcome;
-    let pauli = made.pauli;
-    match outcome {
-        Outcome::Done => ReadAnswer {
-            reading: Reading::Done,
-            pauli,
-        },
-        Outcome::Refused(number) => ReadAnswer {
-            reading: Reading::Refused(number),
-            pauli,
-        },
+const STDOUT_FILENO: i32 = 1;
+
+// The text of the product of two texts, at the start of `out`, or what refused: the left text, then the right one, then the product.
+fn product<'a>(left: &[u8], right: &[u8], out: &'a mut [u8]) -> Result<&'a [u8], Refusal> {
+    let left = paulitext::pauli_string(left)?;
+    let right = paulitext::pauli_string(right)?;
+    let product = pauligroup::mul(left, right)?;
+    let len = paulitext::display(product, out)?;
+    Ok(&out[..len])
+}
+
+// The texts before and behind the first space: the second is empty where there is none.
+fn texts(line: &[u8]) -> (&[u8], &[u8]) {
+    match line.iter().position(|byte| *byte == b' ') {
+        Some(space) => (&line[..space], &line[space + 1..]),
+        None => (line, b""),
     }
 }
 
-fn write_line(text: &[u8]) {
-    let space = line::find(text, 0, b' ');
-    let answer = product(&text[0..space], line::after(text, space));
-    let pauli = answer.pauli;
-    let reading = answer.reading;
-    match reading {
-        Reading::Done => output::pauli(pauli),
-        Reading::Refused(number) => output::refused(number),
-        Reading::RefusedAt(number, index) => output::refused_at(number, index),
+fn write_line(rt: &impl Print, line: &[u8]) {
+    // The longest text is `-i*` and 256 letters.
+    let mut out = [0u8; 259];
+    let (left, right) = texts(line);
+    match product(left, right, &mut out) {
+        Ok(text) => {
+            io::write_all(STDOUT_FILENO, text);
+            io::write_all(STDOUT_FILENO, b"\n");
+        }
+        Err(refusal) => {
+            let _ = println!(rt; "{refusal}");
+        }
     }
 }
 
-fn write_lines(input: &[u8]) {
-    let mut at = 0;
-    while at < input.len() {
-        let end = line::find(input, at, b'\n');
-        write_line(&input[at..end]);
-        at = end + 1;
-    }
-}
-
-fn main() {
+fn main(rt: HostRuntime) {
     let mut input = io::large_buffer();
     let n = io::read_full(STDIN_FILENO, &mut input);
-    write_lines(&input[..n]);
+    for line in input[..n].split_inclusive(|byte| *byte == b'\n') {
+        write_line(&rt, line.strip_suffix(b"\n").unwrap_or(line));
+    }
 }

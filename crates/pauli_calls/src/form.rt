@@ -4,59 +4,48 @@ ghost use Rattle.std.specs.Prelude.{◌≤◌};
 
 use paulis::{Pauli, PauliString};
 
-// How many words a call takes; 98 where there is no such call, or a word is too large for it.
-pub(crate) fn arity(call: u8, words: [u64; 20]) -> usize {
+// How many words a call takes; none where there is no such call, or a word is too large for it.
+pub(crate) fn arity(call: u8, words: [u64; 20]) -> Option<usize> {
     match call {
-        b'o' | b'n' => 1,
-        b'i' => 2,
-        b'P' | b'F' => 5,
-        b'W' => if words[5] < 2 { 6 } else { 98 },
-        b'O' | b'X' => 8,
-        b'h' | b's' | b'c' | b'v' | b't' | b'f' => 10,
-        b'g' | b'b' | b'd' => 11,
-        b'S' => if words[11] < 4 { 12 } else { 98 },
-        b'm' | b'a' => 20,
-        _ => 98,
+        b'o' | b'n' => Some(1),
+        b'i' => Some(2),
+        b'P' | b'F' => Some(5),
+        b'W' if words[5] < 2 => Some(6),
+        b'O' | b'X' => Some(8),
+        b'h' | b's' | b'c' | b'v' | b't' | b'f' => Some(10),
+        b'g' | b'b' | b'd' => Some(11),
+        b'S' if words[11] < 4 => Some(12),
+        b'm' | b'a' => Some(20),
+        _ => None,
     }
 }
 
-// What a byte adds to a word at a place, of which place 0 is the space; 16 where it may not stand there.
-pub fn digit(byte: u8, place: usize) -> u64 {
-    if place == 0 {
-        return if byte == b' ' { 0 } else { 16 };
+// The value of a lower-case hexadecimal digit.
+pub fn digit(byte: u8) -> Option<u8> {
+    match byte {
+        b'0'..=b'9' => Some(byte - b'0'),
+        b'a'..=b'f' => Some(byte - b'a' + 10),
+        _ => None,
     }
-    if byte < b'0' {
-        return 16;
-    }
-    if byte <= b'9' {
-        return (byte - b'0') as u64;
-    }
-    if byte < b'a' {
-        return 16;
-    }
-    if byte <= b'f' {
-        return (byte - b'a') as u64 + 10;
-    }
-    16
 }
 
-// Reads words that are zeros before, and answers how many there are: usize::MAX where something else
-// stands there, or more words than were lent.
-pub fn words(text: &[u8], words: &mut [u64]) -> usize {
-    let mut i = 0;
-    while i < text.len() {
-        let value = digit(text[i], i % 17);
-        if 15 < value {
-            return usize::MAX;
-        }
-        let k = i / 17;
-        if words.len() <= k {
-            return usize::MAX;
-        }
-        words[k] = (words[k] << 4) | value;
-        i += 1;
+// What a byte adds to a word at a place, of which place 0 is the space.
+fn digit_at(byte: u8, place: usize) -> Option<u8> {
+    if place != 0 {
+        return digit(byte);
     }
-    if i % 17 == 0 { i / 17 } else { usize::MAX }
+    (byte == b' ').then_some(0)
+}
+
+// Reads words that are zeros before, and answers how many there are: none where something else stands
+// there, or more words than were lent.
+pub fn words(text: &[u8], words: &mut [u64]) -> Option<usize> {
+    for (i, byte) in text.iter().enumerate() {
+        let digit = digit_at(*byte, i % 17)?;
+        let word = words.get_mut(i / 17)?;
+        *word = (*word << 4) | u64::from(digit);
+    }
+    (text.len() % 17 == 0).then_some(text.len() / 17)
 }
 
 pub fn index(word: u64) -> usize {
@@ -74,7 +63,7 @@ pub(crate) fn letter(code: u64) -> Pauli {
 
 // A phase over 255 is taken for 255, which is refused too.
 pub fn phase(word: u64) -> u8 {
-    if word < 256 { word as u8 } else { 255 }
+    u8::try_from(word).unwrap_or(u8::MAX)
 }
 
 // The mask in word k and the three after it.

@@ -3,19 +3,11 @@
 // 393,216 bytes are read.
 #![tactic(auto)]
 
-ghost use Rattle.std.specs.Prelude.{◌≡◌, length};
-
 // The C library's number of standard input.
 const STDIN_FILENO: i32 = 0;
 
-fn buffer() -> [u8; 393216]
-    ensures { 393216 ≡ length result }
-{
-    [0; 393216]
-}
-
 fn main() {
-    let mut input = buffer();
+    let mut input = [0; 393216];
     let n = io::read_full(STDIN_FILENO, &mut input);
     pauli_calls::answer_lines(&input[..n]);
 }

@@ -1,6 +1,5 @@
-use Rattle.verdicts.specs.Verdict.{seen_as}
-use borrow.Author.Rules.{rules}
+use Rattle.verdicts.proofs.Seen.{row_seen}
 use Rattle.pauli_exports.proofs.naribhush_coefficient_phase.Goals as goal
 
 pub returns : goal.returns
-returns c = seen_as c.phase.ensures c.coefficient_phase.ensures
+returns c = row_seen c.from.ensures c.coefficient_phase.ensures

@@ -1,5 +1,5 @@
-use borrow.Author.Rules.{rules}
+use Rattle.verdicts.proofs.Seen.{row_seen}
 use Rattle.pauli_exports.proofs.naribhush_mul.Goals as goal
 
 pub returns : goal.returns
-returns c = c.pauli.ensures _ c.mul.ensures
+returns c = row_seen c.from.ensures c.mul.ensures

@@ -1,5 +1,5 @@
-use borrow.Author.Rules.{rules}
+use Rattle.verdicts.proofs.Seen.{row_seen}
 use Rattle.pauli_exports.proofs.naribhush_pauli_identity.Goals as goal
 
 pub returns : goal.returns
-returns c = c.pauli.ensures _ c.pauli_identity.ensures
+returns c = row_seen c.from.ensures c.pauli_identity.ensures

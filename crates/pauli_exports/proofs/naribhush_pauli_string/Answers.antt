@@ -1,5 +1,5 @@
-use borrow.Author.Rules.{rules}
+use Rattle.verdicts.proofs.Seen.{refusal_seen}
 use Rattle.pauli_exports.proofs.naribhush_pauli_string.Goals as goal
 
 pub returns : goal.returns
-returns c = c.read.ensures _ c.pauli_string.ensures
+returns c = refusal_seen c.from.ensures c.pauli_string.ensures

@@ -4,12 +4,27 @@
 #![tactic(auto)]
 
 use refusals::Refusal;
-use std::io::Print;
+use std::fmt;
+use std::fmt::Write;
 
 // The C library's numbers of standard input and output.
 const STDIN_FILENO: i32 = 0;
 
 const STDOUT_FILENO: i32 = 1;
+
+// Standard output, for `write!`.
+#[derive(Drop)]
+struct Output;
+
+impl fmt::Write for Output {
+    fn write_str(&mut self, text: &str) -> fmt::Result {
+        if io::write_all(STDOUT_FILENO, text.as_bytes()) {
+            Ok(())
+        } else {
+            Err(fmt::Error)
+        }
+    }
+}
 
 // The text of the product of two texts, at the start of `out`, or what refused: the left text, then the right one, then the product.
 fn product<'a>(left: &[u8], right: &[u8], out: &'a mut [u8]) -> Result<&'a [u8], Refusal> {
@@ -28,7 +43,7 @@ fn texts(line: &[u8]) -> (&[u8], &[u8]) {
     }
 }
 
-fn write_line(rt: &impl Print, line: &[u8]) {
+fn write_line(line: &[u8]) {
     // The longest text is `-i*` and 256 letters.
     let mut out = [0u8; 259];
     let (left, right) = texts(line);
@@ -38,15 +53,15 @@ fn write_line(rt: &impl Print, line: &[u8]) {
             io::write_all(STDOUT_FILENO, b"\n");
         }
         Err(refusal) => {
-            let _ = println!(rt; "{refusal}");
+            let _ = writeln!(Output, "{refusal}");
         }
     }
 }
 
-fn main(rt: HostRuntime) {
+fn main() {
     let mut input = io::large_buffer();
     let n = io::read_full(STDIN_FILENO, &mut input);
     for line in input[..n].split_inclusive(|byte| *byte == b'\n') {
-        write_line(&rt, line.strip_suffix(b"\n").unwrap_or(line));
+        write_line(line.strip_suffix(b"\n").unwrap_or(line));
     }
 }

@@ -1,4 +1,4 @@
--- A word below 2 ^ 64 has nothing from bit 64 on; below it, the one shifted up stays in the word.
+-- A word below 2 ^ 64 has nothing from bit 64 on.
 use mathlib.Core.Path.{◌≡◌, sym, ap₂, ◌∙◌}
 use Prim.Native.Nat.{ℕ, ◌+◌, ◌*◌, ◌/◌, ◌%◌, ◌^◌, ◌≤◌, ◌<◌}
 use native.Mathlib.Nat.{div-eq_of_lt, mod-eq_of_lt}
@@ -6,7 +6,6 @@ use native.Mathlib.Omega.{arith}
 use lib.Pow.{pow_mono}
 use Rattle.bitlaws.specs.Digit.{one_shifted}
 use Rattle.bitlaws.specs.Opening.{drop_bit}
-use Rattle.bitlaws.proofs.Opening.{drop_lt}
 use borrow.Author.Rules.{rules}
 use Rattle.activepauli.proofs.drop_bit.Goals as goal
 
@@ -19,24 +18,6 @@ past q word h l =
 
 pub returns-then-q-ge64 : goal.returns-then-q-ge64
 returns-then-q-ge64 c = past c.args.q c.args.word (search rules) c.if-q-ge64.true
-
-pub overflow_mul-result : goal.overflow_mul-result
-unfolding drop_bit
-overflow_mul-result c =
-    let q = c.args.q in
-    let word = c.args.word in
-    let one : (1 * 2 ^ q) % 2 ^ 64 ≡ 2 ^ q = one_shifted 64 q c.if-q-ge64.false in
-    let room : drop_bit q word < 2 ^ 63 = drop_lt q 63 (omega arith) word (search rules) in
-    rw one (record { fits = omega (arith, room) })
-
-pub overflow_add-result : goal.overflow_add-result
-unfolding drop_bit
-overflow_add-result c =
-    let q = c.args.q in
-    let word = c.args.word in
-    let one : (1 * 2 ^ q) % 2 ^ 64 ≡ 2 ^ q = one_shifted 64 q c.if-q-ge64.false in
-    let room : drop_bit q word < 2 ^ 63 = drop_lt q 63 (omega arith) word (search rules) in
-    rw one (record { fits = omega (arith, room) })
 
 pub returns : goal.returns
 unfolding drop_bit

@@ -20,13 +20,7 @@ returns-in_err-pauli_row c =
     asked _ _ (pauli_row P) (λ (b : Bool). b) (hermitian P) c.from_residual.ensures.1 c.in_err-pauli_row.ensures ∙ pauli_answered (hermitian P) P
 
 same_parity : (k y : ℕ) → (k % 2 + y % 2) % 2 ≡ (k + 3 * y) % 4 % 2
-same_parity k y = sums k y ∙ four_two (k + 3 * y)
-  where
-    sums : (k y : ℕ) → (k % 2 + y % 2) % 2 ≡ (k + 3 * y) % 2
-    sums k y = omega arith
-
-    four_two : (a : ℕ) → a % 2 ≡ a % 4 % 2
-    four_two a = omega arith
+same_parity k y = omega arith
 
 pub returns : goal.returns
 unfolding squares_call hermitian coefficient ys overlap parity

@@ -1,7 +1,7 @@
 -- three phases summed, two of them already modulo 4
-use mathlib.Core.Path.{◌≡◌, refl, sym, ap, ◌∙◌}
+use mathlib.Core.Path.{◌≡◌, refl, ap, ◌∙◌}
 use Prim.Native.Nat.{ℕ, ◌+◌, ◌*◌, ◌%◌}
-use native.Mathlib.Nat.{add-mod, mod-add-mod}
+use native.Mathlib.Omega.{arith}
 use Rattle.answers.specs.Answer.Answer.{accepted}
 use Rattle.bitlaws.specs.Parity.{overlap}
 use Rattle.paulilaws.specs.Pauli.{same, product}
@@ -12,10 +12,7 @@ use Rattle.activepauli.specs.Rows.{pair_row, pair_answered, pair_value}
 use Rattle.activepauli.proofs.ActivePauli.mul.Goals as goal
 
 whole : (a b u : ℕ) → (a % 4 + b % 4 + u) % 4 ≡ (a + b + u) % 4
-whole a b u =
-    sym (mod-add-mod (a % 4 + b % 4) 4 u)
-    ∙ ap (λ (m : ℕ). (m + u) % 4) (sym (add-mod a b 4))
-    ∙ mod-add-mod (a + b) 4 u
+whole a b u = omega arith
 
 pub returns-in_err-pair_row : goal.returns-in_err-pair_row
 unfolding product_call

@@ -4,37 +4,35 @@
 
 mod moves;
 
-ghost use Rattle.amplitudelaws.specs.State.{state_of};
 ghost use Rattle.std.specs.Prelude.{◌≡◌};
 ghost use Rattle.activepauli.specs.Active.{active_of};
 ghost use Rattle.amplitudelaws.specs.Calls.{correcting};
 ghost use Rattle.amplitudelaws.specs.Rows.{correction_row};
+ghost use Rattle.amplitudelaws.specs.State.{state_of};
+ghost use Rattle.refusals.specs.Refusal.{row_of};
 ghost use Rattle.rows.specs.Step.{step_answer_of};
 
 use activepauli::ActivePauli;
-use rows::StepAnswer;
+use refusals::Row;
 
 // Refused by 3, by 6 past 61 qubits and by 13 where a buffer is too short.
-pub fn correct_contiguous_active(re: &mut [f64], im: &mut [f64], pauli: ActivePauli) -> StepAnswer
+pub fn correct_contiguous_active(
+    re: &mut [f64],
+    im: &mut [f64],
+    pauli: ActivePauli,
+) -> Result<(), Row>
     ensures { let S = state_of re.old im.old in
         let did = correcting (active_of pauli) S in
         (step_answer_of result ≡ did.answer) × (state_of re.new im.new ≡ did.lent) }
 {
-    let row = refusal(re, im, pauli);
-    if row != 0 {
-        return StepAnswer::Refused(row);
-    }
+    correction_row(re, im, pauli)?;
     moves::correct(re, im, pauli);
-    StepAnswer::Done
+    Ok(())
 }
 
-// The row that refuses, 0 where none does.
-fn refusal(re: &[f64], im: &[f64], pauli: ActivePauli) -> u8
-    ensures { result ≡ correction_row (active_of pauli) (state_of re.now im.now) }
+fn correction_row(re: &[f64], im: &[f64], pauli: ActivePauli) -> Result<(), Row>
+    ensures { row_of result ≡ correction_row (active_of pauli) (state_of re.now im.now) }
 {
-    let room = rows::has_room(re, im, pauli.nqubits);
-    rows::first(
-        rows::width_row(pauli, rows::WIDEST_KERNEL),
-        rows::room_row(room),
-    )
+    rows::width_row(pauli, rows::WIDEST_KERNEL)?;
+    rows::room_row(rows::has_room(re, im, pauli.nqubits))
 }

@@ -4,13 +4,14 @@
 
 mod halves;
 
-ghost use Rattle.amplitudelaws.specs.State.{state_of};
 ghost use Rattle.std.specs.Prelude.{◌≡◌};
 ghost use Rattle.amplitudelaws.specs.Calls.{promoting};
 ghost use Rattle.amplitudelaws.specs.Rows.{promotion_row};
+ghost use Rattle.amplitudelaws.specs.State.{state_of};
+ghost use Rattle.refusals.specs.Refusal.{row_of};
 ghost use Rattle.rows.specs.Step.{step_answer_of};
 
-use rows::StepAnswer;
+use refusals::Row;
 
 // From `nqubits` qubits to one more. Refused by 3, by 6 past 60 qubits, by 8, and by 13 where a buffer is
 // too short for the new state.
@@ -20,27 +21,20 @@ pub fn promote_contiguous_active(
     nqubits: usize,
     c: f64,
     q: f64,
-) -> StepAnswer
+) -> Result<(), Row>
     ensures { let S = state_of re.old im.old in
         let did = promoting nqubits c q S in
         (step_answer_of result ≡ did.answer) × (state_of re.new im.new ≡ did.lent) }
 {
-    let row = refusal(re, im, nqubits, c, q);
-    if row != 0 {
-        return StepAnswer::Refused(row);
-    }
+    promotion_row(re, im, nqubits, c, q)?;
     halves::promote(re, im, nqubits, c, q);
-    StepAnswer::Done
+    Ok(())
 }
 
-// The row that refuses, 0 where none does.
-fn refusal(re: &[f64], im: &[f64], nqubits: usize, c: f64, q: f64) -> u8
-    ensures { result ≡ promotion_row nqubits c q (state_of re.now im.now) }
+fn promotion_row(re: &[f64], im: &[f64], nqubits: usize, c: f64, q: f64) -> Result<(), Row>
+    ensures { row_of result ≡ promotion_row nqubits c q (state_of re.now im.now) }
 {
-    let too_wide = rows::promoted_width_row(nqubits);
-    if too_wide != 0 {
-        return too_wide;
-    }
-    let room = rows::has_room(re, im, nqubits + 1);
-    rows::first(rows::unit_row(c, q), rows::room_row(room))
+    rows::promoted_width_row(nqubits)?;
+    rows::unit_row(c, q)?;
+    rows::room_row(rows::has_room(re, im, nqubits + 1))
 }

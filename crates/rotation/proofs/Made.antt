@@ -7,7 +7,14 @@ use lib.Dec.{eqb}
 use lib.Ieee.{Float}
 use borrow.Author.Tests.{eqb-false}
 use Rattle.answers.specs.Answer.Answer.{accepted, refused}
-use Rattle.answers.specs.Row.{answered, first_some, first_none, refused_row, accepted_row}
+use Rattle.std.specs.Prelude.{Result}
+use Rattle.std.specs.Result.{IsErrAnd}
+use Rattle.answers.specs.Outcome.{finished}
+use Rattle.answers.specs.Row.{answered, left, left_some, first_some, first_none, refused_row, accepted_row}
+use Rattle.refusals.specs.declared.Row.{Row}
+use Rattle.refusals.specs.Refusal.{number_of}
+use Rattle.refusals.proofs.Asked.{number_some, asked}
+use Rattle.rows.specs.Step.{step_answer_of}
 use Rattle.paulilaws.specs.Pauli.{Pauli}
 use Rattle.amplitudelaws.specs.Binary.{binary}
 use Rattle.amplitudelaws.specs.Rotation.{rotated, rotated_by, rotation_coefficient}
@@ -41,12 +48,12 @@ module _ (P : Pauli) (c s : Float) where
 
   module _ (S : State) where
     -- it was refused, by this row
-    pub kernel_refused : (n : ℕ) → refused n ≡ answered (rotation_kernel_row P c s) (rotation_kernel P c s) → (n ≡ rotation_row P c s S) × (0 < n)
+    pub kernel_refused : (n : ℕ) → refused n ≡ answered (rotation_kernel_row P c s) (rotation_kernel P c s) → n ≡ rotation_row P c s S
     unfolding rotation_row
     kernel_refused n e =
         let told = refused_row (rotation_kernel_row P c s) (rotation_kernel P c s) n e in
         let some_row : 0 < rotation_kernel_row P c s = omega (arith, told.0, told.1) in
-        (sym (first_some (rotation_kernel_row P c s) (room_row (room P.n S)) some_row ∙ told.0), told.1)
+        sym (first_some (rotation_kernel_row P c s) (room_row (room P.n S)) some_row ∙ told.0)
 
     module _ (K : RotationKernel) (e : accepted K ≡ answered (rotation_kernel_row P c s) (rotation_kernel P c s)) where
       passed : rotation_kernel_row P c s ≡ 0
@@ -58,12 +65,20 @@ module _ (P : Pauli) (c s : Float) where
       pub kernel_rotatable : Rotatable K
       kernel_rotatable = subst Rotatable is (made_rotatable passed)
 
+      pub kernel_width : P.n ≡ K.action.n
+      unfolding rotation_kernel pauli_action
+      kernel_width = ap (λ (L : RotationKernel). L.action.n) is
+
       -- only the room is left to be looked at
-      pub kernel_row_lem : room_row (room K.action.n S) ≡ rotation_row P c s S
-      unfolding rotation_row rotation_kernel pauli_action
-      kernel_row_lem =
-          sym (first_none (rotation_kernel_row P c s) (room_row (room P.n S)) passed
-          ∙ ap (λ (L : RotationKernel). room_row (room L.action.n S)) is)
+      pub kernel_row : room_row (room P.n S) ≡ rotation_row P c s S
+      unfolding rotation_row
+      kernel_row = sym (first_none (rotation_kernel_row P c s) (room_row (room P.n S)) passed)
 
       pub kernel_rotates : (sign : ℕ) → by_kernel K sign S ≡ rotation P sign c s S
       kernel_rotates sign = sym (ap (λ (L : RotationKernel). by_kernel L sign S) is) ∙ by_made sign S
+
+-- where a `?` hands on the row that refuses, what was lent is as it was
+pub refused_left : {A : Type 0} (R : ℕ) (new S : State) (x : Result A Row) (e : Row) → IsErrAnd x (λ r. r ≡ e) → number_of e ≡ R
+    → (step_answer_of x ≡ answered R finished) × (S ≡ left R new S)
+refused_left R new S x e h is =
+    (asked x e R (λ done. finished) finished h is, sym (left_some R new S (omega (arith, is, number_some e))))

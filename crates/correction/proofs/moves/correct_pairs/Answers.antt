@@ -1,69 +1,51 @@
-use mathlib.Core.Path.{◌≡◌, ap, ◌∙◌}
-use Prim.Native.Nat.{ℕ, ◌+◌, ◌-◌, ◌*◌, ◌%◌, ◌^◌, ◌≤◌}
+use mathlib.Core.Path.{ap, ap₂, ◌∙◌}
+use Prim.Native.Nat.{ℕ, ◌+◌, ◌*◌, ◌%◌}
 use native.Mathlib.Nat.{mod-mod}
 use native.Mathlib.Omega.{arith}
 use lib.Bits.{bit_xor}
-use Rattle.bitlaws.specs.Digit.{one_shifted}
-use Rattle.bitlaws.specs.Pairs.{pair_of}
 use Rattle.bitlaws.specs.Parity.{overlap}
 use Rattle.amplitudelaws.specs.Arithmetic.{times_power}
 use Rattle.amplitudelaws.specs.Binary.{binary, Point}
 use Rattle.amplitudelaws.specs.Correction.{corrected}
 use Rattle.amplitudelaws.specs.Pairing.{turn_inside, turn_more}
-use Rattle.amplitudelaws.specs.State.{state_of, point}
-use Rattle.amplitudelaws.specs.Sweeping.{Sweeping, sweeping_none}
+use Rattle.amplitudelaws.specs.State.{state_of}
 use Rattle.amplitudelaws.proofs.Sweeping.{pair_all}
-use Rattle.activepauli.specs.Active.{active_of}
-use borrow.Author.Rules.{rules}
 use Rattle.correction.proofs.moves.correct_pairs.Goals as goal
+use Rattle.std.proofs.Common.{◌<◌, length}
+use Rattle.correction.proofs.moves.correct_pairs.Goals.{After-open_bit-left}
 
-pub overflow_sub-half : goal.overflow_sub-half
-overflow_sub-half c = omega (arith, c.requires.1.inside)
+inside : (c : After-open_bit-left) → let left = c.open_bit-left.result in
+    let right = bit_xor left c.args.pauli.x in
+    ((left < length c.loop-k.re) × (left < length c.loop-k.im)) × ((right < length c.loop-k.re) × (right < length c.loop-k.im))
+inside c = turn_inside c.requires.1 c.requires.0 (omega arith) c.open_bit-left.ensures c.loop-k.invariant.1
 
-pub overflow_shl-half : goal.overflow_shl-half
-overflow_shl-half c = omega (arith, c.requires.0)
+pub read-p-requires : goal.read-p-requires
+read-p-requires c = (inside (goal.at.read-p-requires c).After-open_bit-left).0
 
-pub loop-k-init : goal.loop-k-init
-loop-k-init c =
-    let room = c.requires.2 in
-    (one_shifted 64 (c.args.pauli.nqubits - 1) (omega (arith, c.requires.0)), omega arith, sweeping_none room.0 room.1)
+pub read-q-requires : goal.read-q-requires
+read-q-requires c = (inside (goal.at.read-q-requires c).After-open_bit-left).1
 
-pub opened_at-left-requires : goal.opened_at-left-requires
-opened_at-left-requires c = let pre = c.requires in omega (arith, pre.1.inside, pre.0)
+pub write-requires : goal.write-requires
+write-requires c = (inside (goal.at.write-requires c).After-open_bit-left).0
 
-pub exchange-requires : goal.exchange-requires
-exchange-requires c =
-    let pre = c.requires in
-    turn_inside pre.1 pre.0 (omega arith) c.opened_at-left.ensures c.loop-k.invariant.2
-
-pub overflow_add-k : goal.overflow_add-k
-overflow_add-k c = omega arith
-
-pub loop-k-smaller : goal.loop-k-smaller
-loop-k-smaller c = omega arith
+pub write-requires-in-loop-k : goal.write-requires-in-loop-k
+write-requires-in-loop-k c = omega (arith, inside (goal.at.write-requires-in-loop-k c).After-open_bit-left)
 
 pub loop-k-preserved : goal.loop-k-preserved
 unfolding corrected
 loop-k-preserved c =
     let P = c.args.pauli in
     let inv = c.loop-k.invariant in
-    let S = state_of c.loop-k.re c.loop-k.im in
-    let left = c.opened_at-left.result in
-    let right = bit_xor left P.x in (
+    let left = c.open_bit-left.result in
+    let to_left = ap (λ (e : ℕ). e % 4) c.exponent-to_left.ensures ∙ mod-mod _ 4 in
+    let to_right = ap (λ (e : ℕ). e % 4) c.exponent-to_right.ensures ∙ mod-mod _ 4 in (
       inv.0,
-      omega arith,
-      turn_more c.requires.1 c.requires.0 (omega arith) c.opened_at-left.ensures
-          (λ (o : ℕ) (p q : Point). times_power binary ((P.phase + 2 * overlap o P.z) % 4) q) inv.2 _ _ _
-          c.exchange.ensures
-          (ap (λ (e : ℕ). times_power binary e (point S right)) (ap (λ (e : ℕ). e % 4) c.exponent-to_left.ensures ∙ mod-mod _ 4))
-          (ap (λ (e : ℕ). times_power binary e (point S left)) (ap (λ (e : ℕ). e % 4) c.exponent-to_right.ensures ∙ mod-mod _ 4)),
+      turn_more c.requires.1 c.requires.0 (omega arith) c.open_bit-left.ensures
+          (λ (o : ℕ) (p q : Point). times_power binary ((P.phase + 2 * overlap o P.z) % 4) q) inv.1
+          (state_of c.write-in-loop-k.new.re c.write-in-loop-k.new.im) _ _ (cc)
+          (c.times_power.ensures ∙ ap₂ (times_power binary) to_left c.read-q.ensures)
+          (c.times_power-in-loop-k.ensures ∙ ap₂ (times_power binary) to_right c.read-p.ensures),
     )
 
-pub shape_of-re : goal.shape_of-re
-shape_of-re c = c.loop-k.invariant.2.re.len
-
-pub shape_of-im : goal.shape_of-im
-shape_of-im c = c.loop-k.invariant.2.im.len
-
 pub returns : goal.returns
-returns c = pair_all c.requires.1 c.loop-k.invariant.2 (omega arith)
+returns c = pair_all c.requires.1 c.loop-k.invariant.1 (omega arith)

@@ -5,7 +5,6 @@ use native.Mathlib.Omega.{arith}
 use lib.Dec.{eqb}
 use Rattle.bitlaws.specs.Parity.{overlap}
 use Rattle.bitlaws.proofs.Parity.{overlap_lt}
-use borrow.Author.Rules.{rules}
 use Rattle.correction.proofs.moves.exponent.Goals as goal
 
 odd_turn : (k u : ℕ) → u < 2 → eqb u 1 ≡ true → (k % 4 + 2) % 4 ≡ (k + 2 * u) % 4

@@ -7,10 +7,8 @@ pub fn find(s: &[u8], start: usize, end: usize, byte: u8) -> usize
     requires { (start ≤ end) × (end ≤ length s.now) }
     ensures { (result ≡ start + index_of byte (slice start end s.now)) × (result ≤ end) }
 {
-    for i in start..end {
-        if s[i] == byte {
-            return i;
-        }
+    match s[start..end].iter().position(|b| *b == byte) {
+        Some(i) => start + i,
+        None => end,
     }
-    end
 }

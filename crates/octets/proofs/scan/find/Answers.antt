@@ -1,20 +1,22 @@
--- At the byte, past another and at the end of the part: what is left begins with it, with another, or is empty.
-use Rattle.std.proofs.Common.{ap, arith, add-one}
-use Rattle.octets.specs.Bytes.{index_of, slice}
-use Rattle.octets.proofs.Parts.{none_left, found_here, found_later}
+use Rattle.std.specs.Prelude.{ℕ, eqb}
+use Rattle.std.proofs.Common.{rules, tests, subst}
+use Rattle.std.proofs.lemmas.Iterator.{YieldsList-from_slice}
+use Rattle.std.proofs.lemmas.Iterator.Search.{position_from_yields_List}
+use Rattle.octets.proofs.Parts.{Found, found_some, found_none}
 use Rattle.octets.proofs.scan.find.Goals as goal
+use Rattle.octets.proofs.scan.find.Goals.{After-position}
 
-pub returns-then-s-i : goal.returns-then-s-i
-returns-then-s-i c =
-    (omega (arith, c.loop-i.invariant, found_here c.args.byte c.loop-i.i c.args.end c.args.s.now c.requires.1 (omega arith) c.if-s-i.true), omega arith)
+answered : (c : After-position) → let a = c.args in Found a.byte a.start a.end a.s.now c.requires.0 c.requires.1 c.position.result
+answered c = position_from_yields_List (λ (x : ℕ). eqb x c.args.byte) _ _ c.position.result c.position.ensures.ran (YieldsList-from_slice _ c.iter.ensures.rest) (λ x b q k. search (rules, tests))
 
-pub loop-i-preserved : goal.loop-i-preserved
-loop-i-preserved c =
+pub returns-in-Some : goal.returns-in-Some
+returns-in-Some c =
     let a = c.args in
-    let i = c.loop-i.i in
-    let later = found_later a.byte i a.end a.s.now c.requires.1 (omega arith) c.if-s-i.false in
-    omega (arith, c.loop-i.invariant, later, ap (λ (n : _). index_of a.byte (slice n a.end a.s.now)) (add-one i))
+    found_some a.byte a.start a.end a.s.now c.requires.0 c.requires.1 c.in-Some.i
+    (subst (Found a.byte a.start a.end a.s.now c.requires.0 c.requires.1) c.in-Some.is (answered (goal.at.returns-in-Some c).After-position))
 
-pub returns : goal.returns
-returns c =
-    (omega (arith, c.loop-i.invariant, none_left c.args.byte c.loop-i.i c.args.end c.args.s.now c.requires.1 (omega arith)), omega arith)
+pub returns-in-None : goal.returns-in-None
+returns-in-None c =
+    let a = c.args in
+    found_none a.byte a.start a.end a.s.now c.requires.0 c.requires.1
+    (subst (Found a.byte a.start a.end a.s.now c.requires.0 c.requires.1) c.in-None.is (answered (goal.at.returns-in-None c).After-position))

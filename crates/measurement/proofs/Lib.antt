@@ -1,4 +1,3 @@
-pub mod Eight
 pub mod Opened
 pub mod Leaving
 pub mod Passing

@@ -1,7 +1,5 @@
 -- What a measurement kernel leaves of a state, and what such a kernel has.
 use Rattle.std.specs.Prelude.{◌≡◌, cond, ℕ, ◌-◌, ◌^◌, ◌≤◌, Float}
-use Rattle.answers.specs.Answer.{Answer}
-use Rattle.answers.specs.Answer.Answer.{accepted, refused}
 use Rattle.bitlaws.specs.Digit.{bit_of}
 use Rattle.statelaws.specs.Pairs.{Pivoted}
 use Rattle.amplitudelaws.specs.Arithmetic.{scaled}
@@ -12,12 +10,6 @@ use Rattle.amplitudelaws.specs.Memory.{Memory}
 use Rattle.amplitudelaws.specs.Rows.{widest_kernel}
 use Rattle.amplitudelaws.specs.State.{State, point, written}
 use Rattle.kernels.specs.Kernel.{MeasurementKernel}
-use Rattle.measurement.specs.declared.ProbabilityAnswer.{ProbabilityAnswer}
-use Rattle.measurement.specs.declared.ProbabilityAnswer.TheVariants as told
-
-abbrev pub probability_answer_of : ProbabilityAnswer → Answer Float
-probability_answer_of (told.Probability p) = accepted p
-probability_answer_of (told.Refused n) = refused n
 
 -- what branch v leaves at j, before invnorm
 unfoldable pub kernel_remaining : MeasurementKernel → ℕ → (ℕ → Point) → ℕ → Point

@@ -1,5 +1,5 @@
 use mathlib.Core.Path.{◌≡◌, refl, ap, ap₂, ◌∙◌}
-use Prim.Native.Nat.{ℕ, ◌+◌, ◌-◌, ◌^◌, ◌≤◌}
+use Prim.Native.Nat.{ℕ, ◌+◌, ◌-◌, ◌^◌}
 use native.Mathlib.Numerals.{add-one}
 use native.Mathlib.Omega.{arith}
 use lib.Ieee.{Float, add, binary64}
@@ -9,8 +9,7 @@ use Rattle.amplitudelaws.specs.Probability.{squared, total}
 use Rattle.amplitudelaws.specs.State.{State, state_of, point}
 use Rattle.kernels.specs.Kernel.{MeasurementKernel, measurement_kernel_of}
 use Rattle.measurement.specs.Measured.{kernel_remaining, kernel_mass}
-use borrow.Author.Rules.{rules}
-use Rattle.measurement.proofs.norm.mass.Goals as goal
+use Rattle.measurement.proofs.Measured.mass.Goals as goal
 
 module _ (K : MeasurementKernel) (v : ℕ) (S : State) where
   none : binary.nought ≡ kernel_mass K v 0 S
@@ -25,28 +24,18 @@ module _ (K : MeasurementKernel) (v : ℕ) (S : State) where
 pub loop-j-init : goal.loop-j-init
 loop-j-init c =
     let a = c.args in
-    (omega arith, none (measurement_kernel_of a.kernel) (bit_of a.branch) (state_of a.re.now a.im.now))
+    none (measurement_kernel_of a.self.kernel) (bit_of a.self.branch) (state_of a.re.now a.im.now)
 
 pub remaining-requires : goal.remaining-requires
-remaining-requires c =
-    let pre = c.requires in
-    (pre.0, omega (arith, pre.0.outputs, c.loop-j-test.true), pre.1)
-
-pub overflow_add-j : goal.overflow_add-j
-overflow_add-j c = omega arith
-
-pub loop-j-smaller : goal.loop-j-smaller
-loop-j-smaller c = omega arith
+remaining-requires c = (omega (arith, c.args.self.projectable.outputs), c.requires)
 
 pub loop-j-preserved : goal.loop-j-preserved
 loop-j-preserved c =
-    let a = c.args in (
-      omega (arith, c.requires.0.outputs, c.loop-j-test.true),
-      more (measurement_kernel_of a.kernel) (bit_of a.branch) (state_of a.re.now a.im.now) c.loop-j.j _ _ _ c.loop-j.invariant.1 c.remaining.ensures c.squared-sum.ensures,
-    )
+    let a = c.args in
+    more (measurement_kernel_of a.self.kernel) (bit_of a.self.branch) (state_of a.re.now a.im.now) c.loop-j.j _ _ _ c.loop-j.invariant c.remaining.ensures c.squared-sum.ensures
 
 pub returns : goal.returns
 returns c =
     let a = c.args in
-    let end : c.loop-j.j ≡ 2 ^ (a.kernel.action.nqubits - 1) = omega (arith, c.requires.0.outputs, c.loop-j-test.false) in
-    c.loop-j.invariant.1 ∙ ap (λ (k : ℕ). kernel_mass (measurement_kernel_of a.kernel) (bit_of a.branch) k (state_of a.re.now a.im.now)) end
+    let end : c.loop-j.j ≡ 2 ^ (a.self.kernel.action.nqubits - 1) = omega (arith, a.self.projectable.outputs) in
+    c.loop-j.invariant ∙ ap (λ (k : ℕ). kernel_mass (measurement_kernel_of a.self.kernel) (bit_of a.self.branch) k (state_of a.re.now a.im.now)) end

@@ -14,9 +14,8 @@ use Rattle.kernels.specs.Kernel.{MeasurementKernel}
 use Rattle.measurement.specs.Measured.{kernel_projected, kernel_scratch}
 use Rattle.measurement.proofs.Leaving.{room_half}
 use Rattle.measurement.proofs.Passing.{memory_same}
-use borrow.Author.Rules.{rules}
-use Rattle.measurement.proofs.project.Goals as goal
-use Rattle.measurement.proofs.project.Goals.{After-project_to_scratch}
+use Rattle.measurement.proofs.Measured.project.Goals as goal
+use Rattle.measurement.proofs.Measured.project.Goals.{After-project_to_scratch}
 
 module _ (n : ℕ) (F : ℕ → Point) (T T' : State) (e : T' ≡ written n F T) (h : HasRoom n T) where
   room_written : HasRoom n T'
@@ -39,31 +38,26 @@ scratch_mixed : (K : MeasurementKernel) (v : ℕ) (invnorm : Float) (S scratch :
 unfolding kernel_scratch
 scratch_mixed K v invnorm S scratch d = ap (λ (t : Bool). cond t scratch (written (K.action.n - 1) (kernel_projected K v invnorm S) scratch)) d
 
-pub returns-then-kernel : goal.returns-then-kernel
+pub returns-then-self : goal.returns-then-self
 unfolding kernel_scratch
-returns-then-kernel c =
-    memory_same c.project_diagonal.ensures (rw c.if-kernel.true)
+returns-then-self c =
+    memory_same c.project_diagonal.ensures (rw c.if-self.true)
 
 pub project_to_scratch-requires : goal.project_to_scratch-requires
-project_to_scratch-requires c =
-    let pre = c.requires in
-    (pre.0, c.if-kernel.false, pre.1, pre.2 c.if-kernel.false)
+project_to_scratch-requires c = (c.if-self.false, c.requires.0, c.requires.1 c.if-self.false)
 
-made_room : (c : After-project_to_scratch) → let n = c.args.kernel.action.nqubits in
+made_room : (c : After-project_to_scratch) → let n = c.args.self.kernel.action.nqubits in
     HasRoom (n - 1) (state_of c.project_to_scratch.new.scratch_re c.project_to_scratch.new.scratch_im)
-made_room c =
-    let pre = c.requires in
-    room_written _ _ _ _ c.project_to_scratch.ensures (pre.2 c.if-kernel.false)
+made_room c = room_written _ _ _ _ c.project_to_scratch.ensures (c.requires.1 c.if-self.false)
 
 pub copy_back-requires : goal.copy_back-requires
 copy_back-requires c =
     let a = c.args in
-    let half = room_half a.kernel.action.nqubits (state_of a.re.now a.im.now) c.requires.1 in
-    (omega (arith, c.requires.0.narrow), half, made_room (goal.at.copy_back-requires c).After-project_to_scratch)
+    let half = room_half a.self.kernel.action.nqubits (state_of a.re.now a.im.now) c.requires.0 in
+    (omega (arith, a.self.projectable.narrow), half, made_room (goal.at.copy_back-requires c).After-project_to_scratch)
 
-pub returns : goal.returns
-returns c =
-    let pre = c.requires in
+pub returns-else-self : goal.returns-else-self
+returns-else-self c =
     memory_same
-    (c.copy_back.ensures ∙ copied _ _ _ _ c.project_to_scratch.ensures (pre.2 c.if-kernel.false) _)
-    (c.project_to_scratch.ensures ∙ sym (scratch_mixed _ _ _ _ _ c.if-kernel.false))
+    (c.copy_back.ensures ∙ copied _ _ _ _ c.project_to_scratch.ensures (c.requires.1 c.if-self.false) _)
+    (c.project_to_scratch.ensures ∙ sym (scratch_mixed _ _ _ _ _ c.if-self.false))

@@ -22,7 +22,7 @@ use paulis::PauliString;
 use refusals::{Row, refuse_if};
 
 #[repr(C)]
-#[derive(Clone, Copy)]
+#[derive(Clone, Copy, PartialEq, Eq)]
 pub struct ActivePauli {
     pub nqubits: usize,
     pub x: u64,

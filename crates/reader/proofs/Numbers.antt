@@ -1,12 +1,19 @@
 -- Numbers of bytes.
 use mathlib.Core.Path.{◌≡◌}
 use mathlib.Core.List.{List}
-use Prim.Native.Nat.{ℕ, ◌+◌, ◌*◌}
+use Prim.Native.Nat.{ℕ, ◌+◌, ◌<◌}
 use native.Mathlib.Omega.{arith}
-use native.Mathlib.Nat.{add-zero, add_assoc}
-use Rattle.runlaws.specs.Bytes.{number}
+use lib.Dec.{lit<}
+use lib.ListN.{take, drop}
+use Rattle.std.specs.Int.{w64, from_le_bytes}
+use Rattle.std.proofs.lemmas.List.{get_or-take, get_or-drop}
+use Rattle.runlaws.specs.Bytes.{byte_at, number}
 
--- eight bytes are the low four and the high four
-pub number_halves : (s : List ℕ) (i : ℕ) → number 8 s i ≡ number 4 s i + 4294967296 * number 4 s (i + 4)
+-- eight bytes, as the machine makes a number of them
+pub number_read : (s : List ℕ) (i : ℕ) (b : List ℕ) → b ≡ take 8 (drop i s) → from_le_bytes w64 b ≡ number 8 s i
 unfolding number
-number_halves s i = simp (add-zero, add_assoc i) (omega arith)
+number_read s i b is =
+    omega (arith, read 0 (lit< tt), read 1 (lit< tt), read 2 (lit< tt), read 3 (lit< tt), read 4 (lit< tt), read 5 (lit< tt), read 6 (lit< tt), read 7 (lit< tt))
+  where
+    read : (k : ℕ) → k < 8 → byte_at b k ≡ byte_at s (i + k)
+    read k h = rw (is, get_or-take, get_or-drop)

@@ -6,8 +6,6 @@ use lib.Dec.{T}
 use lib.Ieee.{Float, nan, inf, fin, binary64, of_bits, nan_bits, is_nan}
 use lib.Ieee.Bits.{nan_bits_is}
 use Rattle.runlaws.specs.Bytes.{float_at}
-use Rattle.reader.proofs.number.eight.Reads as eight-reads
-use borrow.Author.Rules.{rules}
 use Rattle.reader.proofs.bodies.float.Goals as goal
 
 nan_only : (x : Float) → is_nan x ≡ true → nan ≡ x
@@ -20,7 +18,7 @@ pub returns-then-exponent-digits : goal.returns-then-exponent-digits
 unfolding float_at nan_bits
 returns-then-exponent-digits c =
     let e = c.eight-bits.ensures in
-    nan_only _ (sym (nan_bits_is binary64 _) ∙ subst (λ (n : ℕ). nan_bits binary64 n ≡ true) e c.if-exponent-digits.true)
+    (refl, nan_only _ (sym (nan_bits_is binary64 _) ∙ subst (λ (n : ℕ). nan_bits binary64 n ≡ true) e c.if-exponent-digits.true))
 
 pub float_from_bits-result : goal.float_from_bits-result
 unfolding nan_bits

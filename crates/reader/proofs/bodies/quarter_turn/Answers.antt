@@ -1,18 +1,16 @@
-use mathlib.Core.Path.{refl, ap, ◌∙◌}
-use Rattle.amplitudelaws.specs.Rows.{hermitian_row, widest_kernel}
-use Rattle.amplitudelaws.specs.Step.{width_after}
+use mathlib.Core.Path.{ap}
 use Rattle.amplitudelaws.specs.Step.Step.{quarter_turn}
 use Rattle.framelaws.specs.Rows.{step_row}
-use Rattle.runlaws.specs.Reading.{judged}
-use Rattle.steps.specs.Meaning.{cursor_of}
-use Rattle.reader.proofs.Judging.{kept_step}
-use borrow.Author.Rules.{rules}
+use Rattle.reader.proofs.Judging.{step_refused, step_taken}
 use Rattle.reader.proofs.bodies.quarter_turn.Goals as goal
 
+pub returns-in_err-hermitian_row : goal.returns-in_err-hermitian_row
+unfolding step_row
+returns-in_err-hermitian_row c =
+    λ caller. step_refused caller _ _ _ _ c.from_residual.ensures.1 (rw c.pauli-pauli.ensures at c.in_err-hermitian_row.ensures)
+
 pub returns : goal.returns
-unfolding judged step_row width_after
+unfolding step_row
 returns c =
-    let a = c.args in
     let is = c.pauli-pauli.ensures in
-    λ caller. c.kept.ensures
-    ∙ kept_step (cursor_of a.cursor) a.next (c.hermitian_row-row.ensures ∙ ap (hermitian_row widest_kernel) is) (ap quarter_turn is) refl
+    λ caller. step_taken caller _ _ _ (rw is at c.in_ok-hermitian_row.ensures) (ap quarter_turn is)

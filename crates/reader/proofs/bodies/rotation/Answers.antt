@@ -1,69 +1,56 @@
--- the first row that the code asks is that of the body's Pauli
--- its floats are the body's, and its row the step's
-use mathlib.Core.Path.{◌≡◌, sym, ap, ap₂, ◌∙◌}
-use lib.Dec.{lit<}
-use Rattle.answers.specs.Row.{first, some_row}
-use Rattle.amplitudelaws.specs.Rows.{hermitian_row, unit_row, widest_kernel}
-use Rattle.framelaws.specs.Rows.{rotation_step_row, step_row}
-use Rattle.runlaws.specs.Bytes.{byte_at, float_at, pauli_at}
-use Rattle.runlaws.specs.Reading.{judged}
-use Rattle.steps.specs.Meaning.{cursor_of}
-use Rattle.reader.specs.Meaning.{float_answer_of}
-use Rattle.reader.proofs.Judging.{judged_refused, nan_first, nan_second, rotation_pauli, rotation_floats, rotation_nan, rotation_step}
-use borrow.Author.Rules.{rules}
+use mathlib.Core.Path.{◌≡◌, sym, ◌∙◌}
+use Rattle.answers.specs.Row.{refused_row, accepted_row}
+use Rattle.amplitudelaws.specs.Rows.{unit_row, hermitian_row, widest_kernel}
+use Rattle.framelaws.specs.Rows.{step_row}
+use Rattle.runlaws.specs.Bytes.{pauli_at, float_at}
+use Rattle.reader.proofs.Judging.{step_refused, step_taken, nan_first, nan_second, rotation_pauli, rotation_floats, rotation_sign}
 use Rattle.reader.proofs.bodies.rotation.Goals as goal
-use Rattle.reader.proofs.bodies.rotation.Goals.{After-first-row, After-hermitian_row-hermitian, Else-hermitian-ne0, In-Float, In-Float-float}
+use Rattle.reader.proofs.bodies.rotation.Goals.{In_ok-hermitian_row, In_ok-unit_row}
 
-pauli_row : (c : After-hermitian_row-hermitian) → let a = c.args in
-    c.hermitian_row-hermitian.result ≡ hermitian_row widest_kernel (pauli_at a.cursor.width a.body.now)
-pauli_row c = c.hermitian_row-hermitian.ensures ∙ ap (hermitian_row widest_kernel) c.pauli-pauli.ensures
+pub returns-in_err-hermitian_row : goal.returns-in_err-hermitian_row
+unfolding step_row
+returns-in_err-hermitian_row c =
+    λ caller. step_refused caller _ _ _ _ c.from_residual.ensures.1 (rotation_pauli _ _ _ _ _ (rw c.pauli-pauli.ensures at c.in_err-hermitian_row.ensures))
 
-pauli_passed : (c : Else-hermitian-ne0) → let a = c.args in hermitian_row widest_kernel (pauli_at a.cursor.width a.body.now) ≡ 0
-pauli_passed c = sym (c.hermitian_row-hermitian.ensures ∙ ap (hermitian_row widest_kernel) c.pauli-pauli.ensures) ∙ c.if-hermitian-ne0.false
+-- the body's Pauli is refused by no row
+passed : (c : In_ok-hermitian_row) → 0 ≡ hermitian_row widest_kernel (pauli_at c.args.width c.args.body.now)
+passed c = rw c.pauli-pauli.ensures at c.in_ok-hermitian_row.ensures
 
-pub returns-then-hermitian-ne0 : goal.returns-then-hermitian-ne0
-unfolding judged step_row
-returns-then-hermitian-ne0 c =
-    let a = c.args in
-    let refused = some_row _ c.if-hermitian-ne0.true in
-    λ caller. judged_refused _ (cursor_of a.cursor) a.next _ _ (rotation_pauli _ _ _ _ _ (pauli_row (goal.at.returns-then-hermitian-ne0 c).After-hermitian_row-hermitian) refused) refused
+pub returns-in_err-c : goal.returns-in_err-c
+unfolding step_row
+returns-in_err-c c =
+    let e = c.in_err-c.ensures in
+    λ caller. step_refused caller _ _ _ _ c.from_residual-in_err-c.ensures.1
+    (rotation_floats _ _ _ _ (passed (goal.at.returns-in_err-c c).In_ok-hermitian_row) _ (e.0 ∙ nan_first _ _ e.1))
 
-pub returns-in_default : goal.returns-in_default
-unfolding judged step_row
-returns-in_default c =
-    let a = c.args in
-    let eight = nan_first _ _ (ap float_answer_of (sym c.in_default.is) ∙ c.float.ensures) in
-    λ caller. judged_refused _ (cursor_of a.cursor) a.next _ _ (rotation_nan _ _ _ _ (pauli_passed (goal.at.returns-in_default c).Else-hermitian-ne0) eight) (lit< tt)
+pub returns-in_err-s : goal.returns-in_err-s
+unfolding step_row
+returns-in_err-s c =
+    let e = c.in_err-s.ensures in
+    λ caller. step_refused caller _ _ _ _ c.from_residual-in_err-s.ensures.1
+    (rotation_floats _ _ _ _ (passed (goal.at.returns-in_err-s c).In_ok-hermitian_row) _ (e.0 ∙ nan_second _ _ e.1))
 
-pub returns-in_default-float : goal.returns-in_default-float
-unfolding judged step_row
-returns-in_default-float c =
-    let a = c.args in
-    let eight = nan_second _ _ (ap float_answer_of (sym c.in_default-float.is) ∙ c.float-2.ensures) in
-    λ caller. judged_refused _ (cursor_of a.cursor) a.next _ _ (rotation_nan _ _ _ _ (pauli_passed (goal.at.returns-in_default-float c).Else-hermitian-ne0) eight) (lit< tt)
+pub returns-in_err-unit_row : goal.returns-in_err-unit_row
+unfolding step_row
+returns-in_err-unit_row c =
+    λ caller. step_refused caller _ _ _ _ c.from_residual-in_err-unit_row.ensures.1
+    (rotation_floats _ _ _ _ (passed (goal.at.returns-in_err-unit_row c).In_ok-hermitian_row) _ (rw (c.in_ok-c.ensures, c.in_ok-s.ensures) at c.in_err-unit_row.ensures))
 
-cosine : (c : In-Float) → c.in-Float.c ≡ float_at c.args.body.now 18
-cosine c = ap float_answer_of (sym c.in-Float.is) ∙ c.float.ensures
+-- nor are its floats
+fit : (c : In_ok-unit_row) → 0 ≡ unit_row (float_at c.args.body.now 18) (float_at c.args.body.now 26)
+fit c = rw (c.in_ok-c.ensures, c.in_ok-s.ensures) at c.in_ok-unit_row.ensures
 
-sine : (c : In-Float-float) → c.in-Float-float.s ≡ float_at c.args.body.now 26
-sine c = ap float_answer_of (sym c.in-Float-float.is) ∙ c.float-2.ensures
-
-step_row_lem : (c : After-first-row) → let a = c.args in
-    c.first-row.result ≡ rotation_step_row (pauli_at a.cursor.width a.body.now) (byte_at a.body.now 17) (float_at a.body.now 18) (float_at a.body.now 26)
-step_row_lem c =
-    c.first-row.ensures
-    ∙ ap₂ first (c.unit_row.ensures ∙ ap₂ unit_row (ap float_answer_of (sym c.in-Float.is) ∙ c.float.ensures) (ap float_answer_of (sym c.in-Float-float.is) ∙ c.float-2.ensures)) c.row.ensures
-    ∙ sym (rotation_floats _ _ _ _ (sym (c.hermitian_row-hermitian.ensures ∙ ap (hermitian_row widest_kernel) c.pauli-pauli.ensures) ∙ c.if-hermitian-ne0.false))
-
-pub returns-then-row-ne0 : goal.returns-then-row-ne0
-unfolding judged step_row
-returns-then-row-ne0 c =
-    let a = c.args in
-    λ caller. judged_refused _ (cursor_of a.cursor) a.next _ _ (step_row_lem (goal.at.returns-then-row-ne0 c).After-first-row) (some_row _ c.if-row-ne0.true)
+pub returns-in_err-sign : goal.returns-in_err-sign
+unfolding step_row
+returns-in_err-sign c =
+    let k = goal.at.returns-in_err-sign c in
+    λ caller. step_refused caller _ _ _ _ c.from_residual-in_err-sign.ensures.1
+    (rotation_sign _ _ _ _ (passed k.In_ok-hermitian_row) _ (fit k.In_ok-unit_row) (sym (refused_row _ _ _ c.in_err-sign.ensures).0))
 
 pub returns : goal.returns
-unfolding judged step_row
+unfolding step_row
 returns c =
-    let a = c.args in
-    λ caller. rotation_step _ _ _ _ (cursor_of a.cursor) a.next c.pauli-pauli.ensures (cosine (goal.at.returns c).In-Float) (sine (goal.at.returns c).In-Float-float)
-    (sym (step_row_lem (goal.at.returns c).After-first-row) ∙ c.if-row-ne0.false)
+    let k = goal.at.returns c in
+    let sign = accepted_row _ _ _ c.in_ok-sign.ensures in
+    λ caller. step_taken caller _ _ _ (rotation_sign _ _ _ _ (passed k.In_ok-hermitian_row) _ (fit k.In_ok-unit_row) (sym sign.0))
+    (rw (c.pauli-pauli.ensures, sign.1, c.in_ok-c.ensures, c.in_ok-s.ensures))

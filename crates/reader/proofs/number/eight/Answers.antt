@@ -1,10 +1,9 @@
-use native.Mathlib.Omega.{arith}
-use Rattle.reader.proofs.Numbers.{number_halves}
-use Rattle.reader.proofs.number.four.Reads as four-reads
-use borrow.Author.Rules.{rules}
+use mathlib.Core.Path.{◌∙◌}
+use native.Mathlib.Nat.{add-sub_cancel_left}
+use Rattle.reader.proofs.Numbers.{number_read}
 use Rattle.reader.proofs.number.eight.Goals as goal
 
 pub returns : goal.returns
 returns c =
-    let a = c.args in
-    omega (arith, number_halves a.bytes.now a.i)
+    let read = rw add-sub_cancel_left at c.copy_from_slice.ensures.after in
+    c.from_le_bytes.ensures ∙ number_read c.args.bytes.now c.args.i _ read

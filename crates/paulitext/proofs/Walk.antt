@@ -1,14 +1,13 @@
--- The loops: a text read letter by letter into a Pauli, and a text written byte by byte into a buffer.
+-- A text read letter by letter into a Pauli, and what the calls on Paulis answer.
 use mathlib.Core.Path.{◌≡◌, refl, sym, ap, ◌∙◌}
 use mathlib.Core.Bool.{Bool, true, false}
-use mathlib.Core.List.{List, ◌++◌}
+use mathlib.Core.List.{List}
 use mathlib.Core.Option.{Option, none, some}
 use Prim.Native.Nat.{ℕ, suc, ◌+◌, ◌≤◌, ◌<◌}
-use native.Mathlib.Nat.{zero-add}
 use native.Mathlib.Numerals.{add-one}
 use native.Mathlib.Omega.{arith}
-use lib.ListN.{length, get_or, drop, set, drop_of_length-le}
-use lib.Seq.{drop-cons, paste, paste-zero, paste-suc, take-length}
+use lib.ListN.{length, get_or, drop, drop_of_length-le}
+use lib.Seq.{drop-cons}
 use borrow.Author.Tests.{le-ltb, ltb-false}
 use Rattle.answers.specs.Answer.{refuse}
 use Rattle.answers.specs.Answer.Answer.{accepted, refused, refused_at}
@@ -103,31 +102,6 @@ module _ {A : Type 0} (P : Pauli) (v : A) where
       go : (b : Bool) → fits P ≡ b → (fits P ≡ false) × (n ≡ 3)
       go false f = (f, (let h : refused n ≡ refused 3 = e ∙ rw f in cc))
       go true f = absurd (let h : refused n ≡ accepted v = e ∙ rw f in let z : ◌≡◌ {A = ℕ} 0 1 = cc in omega arith)
-
--- ---- writing a text to the start of a buffer
-
-module _ (text out : List ℕ) where
-  -- the first i bytes are written
-  abbrev pub Written : ℕ → List ℕ → Type 0
-  Written i now = now ≡ paste out 0 text i
-
-  pub written_none : Written 0 out
-  written_none = paste-zero out 0 text
-
-  pub written_next : (i v : ℕ) (now : List ℕ) → i < length out → i < length text → v ≡ get_or text i 0 → Written i now → Written (i + 1) (set now i v)
-  written_next i v now h l e w =
-      let place : 0 + i ≡ i = zero-add i in
-      ap (λ (t : List ℕ). set t i v) w
-      ∙ ap (set (paste out 0 text i) i) e
-      ∙ ap (λ (m : ℕ). set (paste out 0 text i) m (get_or text i 0)) (sym place)
-      ∙ paste-suc out 0 text i 0 (omega arith) l
-      ∙ ap (paste out 0 text) (sym (add-one i))
-
-  pub written_all : (now : List ℕ) (n : ℕ) → n ≡ length text → Written n now → now ≡ text ++ drop (length text) out
-  written_all now n e w =
-      w ∙ ap (paste out 0 text) e
-      ∙ ap (λ (t : List ℕ). t ++ drop (0 + length text) out) (take-length text)
-      ∙ ap (λ (m : ℕ). text ++ drop m out) (zero-add (length text))
 
 -- ---- what the calls on Paulis answer where no row refuses them
 

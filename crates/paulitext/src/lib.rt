@@ -35,6 +35,6 @@ pub fn display(pauli: PauliString, out: &mut [u8]) -> Result<usize, Row>
     let coefficient = pauligroup::coefficient_phase(pauli)?;
     let len = byte::text_len(coefficient, pauli.nqubits);
     refusals::refuse_if(out.len() < len, Row::OutputTooShort)?;
-    byte::write(pauli, coefficient, len, out);
+    byte::write(pauli, coefficient, out);
     Ok(len)
 }

@@ -40,8 +40,9 @@ write-requires-clause-pauli_value c =
     let P = pauli_of c.args.pauli in
     (value_told P (coefficient P) c.in_ok-coefficient.ensures).0
 
-pub write-requires-clause-len_in_bounds : goal.write-requires-clause-len_in_bounds
-write-requires-clause-len_in_bounds c = ltb-false _ _ (row_passes _ 16 (omega arith) c.in_ok-refuse_if.ensures)
+pub write-requires-clause-text_in_bounds : goal.write-requires-clause-text_in_bounds
+write-requires-clause-text_in_bounds c =
+    omega (arith, c.text_len-len.ensures, ltb-false _ _ (row_passes _ 16 (omega arith) c.in_ok-refuse_if.ensures))
 
 pub returns : goal.returns
 unfolding coefficient_call

@@ -1,26 +1,36 @@
-use Rattle.std.proofs.Common.{◌≡◌, List, ◌++◌, ℕ, length, drop, sym, ap, ◌∙◌, arith}
-use Rattle.paulis.specs.Strings.{pauli_of}
-use Rattle.paulitext.specs.Text.{prefix, body}
-use Rattle.paulitext.proofs.Bytes.{text_length_lem}
-use Rattle.paulitext.proofs.Walk.{written_next, written_all}
+-- The letters are written behind the coefficient, one by one.
+use Rattle.std.proofs.Common.{◌≡◌, List, ◌++◌, ℕ, ◌+◌, ◌<◌, length, take, drop, set, get_or, max, sym, ap, ◌∙◌, arith}
+use Rattle.std.proofs.Math.Seq.{paste}
+use Rattle.std.proofs.lemmas.List.Edits.{paste_more}
+use Rattle.paulis.specs.Strings.{pauli_of, pauli_letter_of}
+use Rattle.paulitext.specs.Text.{prefix, byte_of, body}
+use Rattle.paulitext.proofs.Bytes.{body_length_lem}
+use Rattle.paulitext.proofs.Showing.{letter_shown, written}
 use Rattle.paulitext.proofs.byte.write.Goals as goal
-use Rattle.paulitext.proofs.byte.write.Goals.{Start}
 
-abbrev text : Start → List ℕ
-text s = prefix s.args.coefficient ++ body s.args.pauli.nqubits (pauli_of s.args.pauli)
-
-whole : (s : Start) → s.args.len ≡ length (text s)
-whole s = s.requires.len_value ∙ sym (text_length_lem s.args.coefficient s.args.pauli.nqubits 0 (pauli_of s.args.pauli))
-
-pub loop-i-preserved : goal.loop-i-preserved
-loop-i-preserved c =
-    let l = c.loop-i in
-    let s = (goal.at.loop-i-preserved c).Start in
-    written_next (text s) c.args.out.now l.i c.at.result l.out (omega (arith, c.requires.len_in_bounds)) (omega (arith, whole s)) c.at.ensures l.invariant
+pub loop-q-preserved : goal.loop-q-preserved
+loop-q-preserved c =
+    let l = c.loop-q in
+    let P = pauli_of c.args.pauli in
+    let letters : List ℕ = body c.args.pauli.nqubits P in
+    let base : List ℕ = c.copy-at.new.to in
+    let at : ℕ = c.copy-at.result in
+    let inside : l.q < max c.args.pauli.nqubits 1 = omega (arith, c.max-q-end.ensures) in
+    let byte : c.of_letter.result ≡ get_or letters l.q 0
+    = c.of_letter.ensures ∙ ap (λ (m : _). byte_of (pauli_letter_of m)) c.unwrap_or.ensures ∙ sym (letter_shown P l.q c.requires.pauli_value inside c.get.result c.get.ensures) in
+    let room : at + l.q < length base
+    = omega (arith, c.copy-at.ensures.0, c.copy-at.auto.to, ap length c.prefix.ensures, c.requires.text_in_bounds) in
+    ap (λ (t : List ℕ). set t (at + l.q) c.of_letter.result) l.invariant
+    ∙ ap (set (paste base at letters l.q) (at + l.q)) byte
+    ∙ paste_more base at letters l.q 0 room (omega (arith, body_length_lem c.args.pauli.nqubits P))
 
 pub returns : goal.returns
 returns c =
-    let l = c.loop-i in
-    let s = (goal.at.returns c).Start in
-    let done : l.i ≡ c.args.len = omega arith in
-    written_all (text s) c.args.out.now l.out l.i (done ∙ whole s) l.invariant ∙ ap (λ (n : ℕ). text s ++ drop n c.args.out.now) (sym (whole s))
+    let l = c.loop-q in
+    let P = pauli_of c.args.pauli in
+    let n : ℕ = c.args.pauli.nqubits in
+    let all : l.q ≡ length (body n P) = omega (arith, c.max-q-end.ensures, body_length_lem n P) in
+    written (prefix c.args.coefficient) (body n P) c.args.out.now c.copy-at.new.to l.out c.copy-at.result l.q
+    (c.copy-at.ensures.0 ∙ ap length c.prefix.ensures)
+    (c.copy-at.ensures.1 ∙ ap (λ (t : List ℕ). take (length t) t ++ drop (length t) c.args.out.now) c.prefix.ensures)
+    all l.invariant

@@ -1,9 +1,9 @@
--- The first i bytes of the text stand in the buffer, and past them what stood there.
-use Rattle.std.specs.Prelude.{◌++◌}
+-- The first q letters stand behind the coefficient, and past them what stood there.
+use Rattle.std.proofs.Common.{◌≡◌}
+use Rattle.std.proofs.Math.Seq.{paste}
 use Rattle.paulis.specs.Strings.{pauli_of}
-use Rattle.paulitext.specs.Text.{prefix, body}
-use Rattle.paulitext.proofs.Walk.{Written}
+use Rattle.paulitext.specs.Text.{body}
 use Rattle.paulitext.proofs.byte.write.Given as goal
 
-abbrev pub invariant-loop-i : goal.invariant-loop-i
-invariant-loop-i l = Written (prefix l.coefficient ++ body l.pauli.nqubits (pauli_of l.pauli)) l.initial.out l.i l.out
+abbrev pub invariant-loop-q : goal.invariant-loop-q
+invariant-loop-q l = l.out ≡ paste l.initial.out l.at (body l.pauli.nqubits (pauli_of l.pauli)) l.q

@@ -2,6 +2,7 @@
 // and any step: where the two do not suit each other it is refused.
 #![tactic(auto)]
 
+mod pair;
 mod row;
 mod suited;
 

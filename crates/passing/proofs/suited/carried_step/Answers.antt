@@ -6,13 +6,13 @@ use Rattle.framelaws.specs.Suited.{Suited}
 use borrow.Author.Rules.{rules}
 use Rattle.passing.proofs.suited.carried_step.Goals as goal
 
-pub flipped-requires : goal.flipped-requires
-flipped-requires c =
-    subst (Suited (active_of c.args.pauli)) (ap step_of c.in-Rotation.is) c.requires
+pub invariant_of-pair : goal.invariant_of-pair
+invariant_of-pair c =
+    record { paired = subst (Suited (active_of c.args.pauli)) (ap step_of c.in-Rotation.is) c.requires }
 
-pub flipped-requires-in-Projection : goal.flipped-requires-in-Projection
-flipped-requires-in-Projection c =
-    (subst (Suited (active_of c.args.pauli)) (ap step_of c.in-Projection.is) c.requires).0
+pub invariant_of-pair-in-Projection : goal.invariant_of-pair-in-Projection
+invariant_of-pair-in-Projection c =
+    record { paired = (subst (Suited (active_of c.args.pauli)) (ap step_of c.in-Projection.is) c.requires).0 }
 
 pub returns-in-Rotation : goal.returns-in-Rotation
 unfolding carried_step

@@ -13,19 +13,23 @@ widened-requires c =
 
 pub past_projection-requires : goal.past_projection-requires
 past_projection-requires c =
-    subst (Suited (active_of c.args.pauli)) (ap step_of c.in-Projection.is) c.requires
+    (subst (Suited (active_of c.args.pauli)) (ap step_of c.in-Projection.is) c.requires).1
 
-pub anticommute-requires : goal.anticommute-requires
-anticommute-requires c =
-    subst (Suited (active_of c.args.pauli)) (ap step_of c.in-Correction.is) c.requires
+pub invariant_of-pair : goal.invariant_of-pair
+invariant_of-pair c =
+    record { paired = (subst (Suited (active_of c.args.pauli)) (ap step_of c.in-Projection.is) c.requires).0 }
+
+pub invariant_of-pair-in-Correction : goal.invariant_of-pair-in-Correction
+invariant_of-pair-in-Correction c =
+    record { paired = subst (Suited (active_of c.args.pauli)) (ap step_of c.in-Correction.is) c.requires }
+
+pub invariant_of-pair-in-QuarterTurn : goal.invariant_of-pair-in-QuarterTurn
+invariant_of-pair-in-QuarterTurn c =
+    record { paired = subst (Suited (active_of c.args.pauli)) (ap step_of c.in-QuarterTurn.is) c.requires }
 
 pub signed-requires : goal.signed-requires
 signed-requires c =
     (subst (Suited (active_of c.args.pauli)) (ap step_of c.in-Correction.is) c.requires).first
-
-pub past_quarter_turn-requires : goal.past_quarter_turn-requires
-past_quarter_turn-requires c =
-    subst (Suited (active_of c.args.pauli)) (ap step_of c.in-QuarterTurn.is) c.requires
 
 pub returns-in-Rotation : goal.returns-in-Rotation
 unfolding passed

@@ -4,7 +4,7 @@ use Rattle.steps.proofs.Flag.{byte_digit}
 use Rattle.activepauli.specs.Active.{active_of}
 use Rattle.activepauli.specs.Accepted.{raised_accepted}
 use Rattle.passing.specs.Unrefused.{unrefused, value_is}
-use Rattle.passing.proofs.suited.signed.Goals as goal
+use Rattle.passing.proofs.pair.signed.Goals as goal
 
 pub unwrap-requires : goal.unwrap-requires
 unwrap-requires c =

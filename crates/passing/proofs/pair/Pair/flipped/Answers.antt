@@ -4,7 +4,7 @@ use Prim.Native.Nat.{ℕ, ◌+◌, ◌%◌}
 use lib.Ieee.{unlike}
 use Rattle.bitlaws.specs.Digit.{bit_of}
 use Rattle.framelaws.specs.Carrying.{flipped}
-use Rattle.passing.proofs.suited.flipped.Goals as goal
+use Rattle.passing.proofs.pair.Pair.flipped.Goals as goal
 
 sum : (s t : Bool) → bit_of (unlike s t) ≡ (bit_of s + bit_of t) % 2
 sum true true = refl

@@ -11,7 +11,7 @@ use Rattle.activepauli.specs.Calls.{raised_call}
 use Rattle.framelaws.specs.Carrying.{turned_by, turned_past}
 use Rattle.framelaws.specs.Suited.{Paired}
 use Rattle.passing.specs.Unrefused.{unrefused, value_is}
-use Rattle.passing.proofs.suited.past_quarter_turn.Goals as goal
+use Rattle.passing.proofs.pair.Pair.past_quarter_turn.Goals as goal
 
 by_test : (Q P : Pauli) (found t : Bool) → bit_of found ≡ anti Q P → found ≡ t → turned_past Q P ≡ turned_by t P Q
 unfolding turned_past
@@ -25,19 +25,19 @@ product_raised Q P whole p is =
       width = unfold product in (admitted_beside p.first p.width p.second).width;
     })) 3
 
-pub times-requires : goal.times-requires
-times-requires c =
-    let p = c.requires in
-    record { first = admitted_beside p.first p.width p.second; second = p.first.fitting; width = sym p.width }
+pub invariant_of-turned : goal.invariant_of-turned
+invariant_of-turned c =
+    let p = c.args.self.paired in
+    record { paired = record { first = admitted_beside p.first p.width p.second; second = p.first.fitting; width = sym p.width } }
 
 pub unwrap-requires : goal.unwrap-requires
 unwrap-requires c =
-    unrefused active_of c.raised.result (c.raised.ensures ∙ product_raised _ _ _ c.requires c.times.ensures)
+    unrefused active_of c.raised.result (c.raised.ensures ∙ product_raised _ _ _ c.args.self.paired c.product.ensures)
 
 pub returns-then-anticommute : goal.returns-then-anticommute
 unfolding turned_by
 returns-then-anticommute c =
-    value_is active_of c.raised.result (c.raised.ensures ∙ product_raised _ _ _ c.requires c.times.ensures) _ c.unwrap.ensures ∙ ap (raised 3) c.times.ensures
+    value_is active_of c.raised.result (c.raised.ensures ∙ product_raised _ _ _ c.args.self.paired c.product.ensures) _ c.unwrap.ensures ∙ ap (raised 3) c.product.ensures
     ∙ sym (by_test _ _ _ true c.anticommute.ensures c.if-anticommute.true)
 
 pub returns-else-anticommute : goal.returns-else-anticommute

@@ -53,6 +53,7 @@ impl Pair {
     }
 
     // The carried one times the other, with the new branch's sign, if they meet.
+    #[tactic(auto, unfolding(framelaws::specs::Carrying::absorbed))]
     fn absorbed(self, met: bool, branch: bool) -> ActivePauli
         ensures { active_of result ≡ carrying.absorbed met (active_of self.other) (bit_of branch) (active_of self.pauli) }
     {

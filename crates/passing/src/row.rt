@@ -26,6 +26,7 @@ fn widened_row(pauli: ActivePauli) -> Result<(), Row>
     crate::suited::widened(pauli).pauli_row()
 }
 
+#[tactic(auto, unfolding(framelaws::specs::PassRow::pass_row))]
 pub(crate) fn pass_row(pauli: ActivePauli, step: Step) -> Result<(), Row>
     ensures { row_of result ≡ pass_row (active_of pauli) (step_of step) }
 {

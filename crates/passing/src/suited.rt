@@ -13,6 +13,7 @@ use activepauli::ActivePauli;
 use steps::Step;
 
 // With a new highest qubit, the identity there.
+#[tactic(auto, unfolding(framelaws::specs::Carrying::widened))]
 pub(crate) fn widened(pauli: ActivePauli) -> ActivePauli
     requires { pauli.nqubits ≤ most_qubits }
     ensures { active_of result ≡ carrying.widened (active_of pauli) }
@@ -24,6 +25,7 @@ pub(crate) fn widened(pauli: ActivePauli) -> ActivePauli
 }
 
 // The Pauli behind the step.
+#[tactic(auto, unfolding(framelaws::specs::Carrying::passed))]
 pub(crate) fn passed(pauli: ActivePauli, step: Step) -> ActivePauli
     requires { Suited (active_of pauli) (step_of step) }
     ensures { active_of result ≡ carrying.passed (active_of pauli) (step_of step) }
@@ -47,6 +49,7 @@ pub(crate) fn passed(pauli: ActivePauli, step: Step) -> ActivePauli
 }
 
 // The step that the Pauli leaves behind it.
+#[tactic(auto, unfolding(framelaws::specs::Carrying::carried_step))]
 pub(crate) fn carried_step(pauli: ActivePauli, step: Step) -> Step
     requires { Suited (active_of pauli) (step_of step) }
     ensures { step_of result ≡ carrying.carried_step (active_of pauli) (step_of step) }

@@ -1,17 +1,9 @@
-use Rattle.std.proofs.Common.{sym, ◌∙◌, rules}
+use Rattle.std.proofs.Common.{sym, ◌∙◌}
 use Rattle.answers.specs.Row.{first_none}
 use Rattle.refusals.proofs.Asked.{asked_first}
 use Rattle.activepauli.specs.Active.{active_of}
 use Rattle.framelaws.specs.PassRow.{pass_row, pair_row}
 use Rattle.passing.proofs.row.pass_row.Goals as goal
-
-pub returns-in-Rotation : goal.returns-in-Rotation
-unfolding pass_row
-returns-in-Rotation c = search rules
-
-pub returns-in-Promotion : goal.returns-in-Promotion
-unfolding pass_row
-returns-in-Promotion c = rw c.in-Promotion.is c.widened_row.ensures
 
 pub returns-in_err-pair_row-in-Projection : goal.returns-in_err-pair_row-in-Projection
 unfolding pass_row

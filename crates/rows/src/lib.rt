@@ -37,7 +37,7 @@ pub fn is_finite(value: f64) -> bool
     value.is_finite()
 }
 
-// Whether both lists have room for the amplitudes of this many qubits.
+// Whether both lists have room for the amplitudes of this many qubits: two lists, as the C interface lends them.
 pub fn has_room(re: &[f64], im: &[f64], nqubits: usize) -> bool
     ensures { result ≡ room nqubits (state_of re.now im.now) }
 {

@@ -6,28 +6,15 @@ mod algebra;
 
 ghost use Rattle.std.specs.Prelude.{◌≡◌};
 ghost use Rattle.paulis.specs.Strings.{pauli_of};
-ghost use Rattle.refusals.specs.Refusal.{answer_of};
-ghost use Rattle.pauligroup.specs.Calls.{product_call, anticommutes_call, coefficient_call, squares_call, sign_call};
+ghost use Rattle.refusals.specs.Refusal.{answer_of, row_of};
+ghost use Rattle.pauligroup.specs.Calls.{pair_row, product_call, anticommutes_call, coefficient_call, squares_call, sign_call};
 
 use paulis::PauliString;
 use refusals::Row;
 
-// The product, in which `rhs` acts first.
-pub fn mul(lhs: PauliString, rhs: PauliString) -> Result<PauliString, Row>
-    ensures { answer_of pauli_of result ≡ product_call (pauli_of lhs) (pauli_of rhs) }
-{
-    if !(lhs.is_pauli() & rhs.is_pauli()) {
-        return Err(Row::NoPauli);
-    }
-    if lhs.nqubits != rhs.nqubits {
-        return Err(Row::WidthsDiffer);
-    }
-    Ok(algebra::times(lhs, rhs))
-}
-
-// Symplectic inner product: true when `a` and `b` anticommute.
-pub fn pauli_anticommutes(a: PauliString, b: PauliString) -> Result<bool, Row>
-    ensures { answer_of (λ b. b) result ≡ anticommutes_call (pauli_of a) (pauli_of b) }
+// Refused where the two are no Paulis, or of different widths.
+fn are_pair(a: PauliString, b: PauliString) -> Result<(), Row>
+    ensures { row_of result ≡ pair_row (pauli_of a) (pauli_of b) }
 {
     if !(a.is_pauli() & b.is_pauli()) {
         return Err(Row::NoPauli);
@@ -35,6 +22,22 @@ pub fn pauli_anticommutes(a: PauliString, b: PauliString) -> Result<bool, Row>
     if a.nqubits != b.nqubits {
         return Err(Row::WidthsDiffer);
     }
+    Ok(())
+}
+
+// The product, in which `rhs` acts first.
+pub fn mul(lhs: PauliString, rhs: PauliString) -> Result<PauliString, Row>
+    ensures { answer_of pauli_of result ≡ product_call (pauli_of lhs) (pauli_of rhs) }
+{
+    are_pair(lhs, rhs)?;
+    Ok(algebra::times(lhs, rhs))
+}
+
+// Symplectic inner product: true when `a` and `b` anticommute.
+pub fn pauli_anticommutes(a: PauliString, b: PauliString) -> Result<bool, Row>
+    ensures { answer_of (λ b. b) result ≡ anticommutes_call (pauli_of a) (pauli_of b) }
+{
+    are_pair(a, b)?;
     Ok(algebra::anticommute(a, b))
 }
 
@@ -52,20 +55,14 @@ pub fn coefficient_phase(pauli: PauliString) -> Result<u8, Row>
 pub fn pauli_squares_to_identity(pauli: PauliString) -> Result<bool, Row>
     ensures { answer_of (λ b. b) result ≡ squares_call (pauli_of pauli) }
 {
-    if !pauli.is_pauli() {
-        return Err(Row::NoPauli);
-    }
-    Ok(algebra::coefficient(pauli) % 2 == 0)
+    Ok(coefficient_phase(pauli)? % 2 == 0)
 }
 
 // The sign of a Hermitian Pauli: false for +P, true for -P.
 pub fn measurement_phase_sign(pauli: PauliString) -> Result<bool, Row>
     ensures { answer_of (λ b. b) result ≡ sign_call (pauli_of pauli) }
 {
-    if !pauli.is_pauli() {
-        return Err(Row::NoPauli);
-    }
-    let coefficient = algebra::coefficient(pauli);
+    let coefficient = coefficient_phase(pauli)?;
     if coefficient % 2 != 0 {
         return Err(Row::NotHermitian);
     }

@@ -1,6 +1,6 @@
 -- A text read letter by letter into a Pauli, and what the calls on Paulis answer.
 use mathlib.Core.Path.{◌≡◌, refl, sym, ap, ◌∙◌}
-use mathlib.Core.Bool.{Bool, true, false}
+use mathlib.Core.Bool.{true}
 use mathlib.Core.List.{List}
 use mathlib.Core.Option.{Option, none, some}
 use Prim.Native.Nat.{ℕ, suc, ◌+◌, ◌≤◌, ◌<◌}
@@ -20,7 +20,7 @@ use Rattle.refusals.specs.declared.Row.{Row}
 use Rattle.refusals.specs.Refusal.{number_of}
 use lib.Dec.{ltb}
 use Rattle.paulis.proofs.Told.{row_passes, refuse_some, refuse_none}
-use Rattle.paulis.specs.Calls.{on_pauli, identity_call, set_call, get_call}
+use Rattle.paulis.specs.Calls.{identity_call, set_call, get_call}
 use Rattle.paulis.specs.Rows.{a_qubit}
 use Rattle.std.specs.Prelude as code
 use Rattle.paulis.specs.declared.Pauli.{Pauli as Single}
@@ -83,25 +83,6 @@ module _ (s : List ℕ) where
 
   pub short : 0 ≡ row (ltb 256 (length s)) 1 0 → length s ≤ 256
   short e = ltb-false 256 (length s) (row_passes (ltb 256 (length s)) 1 (omega arith) e)
-
--- ---- what asking for a Pauli's value tells
-
-module _ {A : Type 0} (P : Pauli) (v : A) where
-  pub value_told : {w : A} → accepted w ≡ on_pauli P (accepted v) → (fits P ≡ true) × (w ≡ v)
-  unfolding on_pauli refuse
-  value_told {w} e = go (fits P) refl
-    where
-      go : (b : Bool) → fits P ≡ b → (fits P ≡ true) × (w ≡ v)
-      go true f = (f, (let h : accepted w ≡ accepted v = e ∙ rw f in cc))
-      go false f = absurd (let h : accepted w ≡ refused 3 = e ∙ rw f in let z : ◌≡◌ {A = ℕ} 0 1 = cc in omega arith)
-
-  pub refused_told : {n : ℕ} → refused n ≡ on_pauli P (accepted v) → (fits P ≡ false) × (n ≡ 3)
-  unfolding on_pauli refuse
-  refused_told {n} e = go (fits P) refl
-    where
-      go : (b : Bool) → fits P ≡ b → (fits P ≡ false) × (n ≡ 3)
-      go false f = (f, (let h : refused n ≡ refused 3 = e ∙ rw f in cc))
-      go true f = absurd (let h : refused n ≡ accepted v = e ∙ rw f in let z : ◌≡◌ {A = ℕ} 0 1 = cc in omega arith)
 
 -- ---- what the calls on Paulis answer where no row refuses them
 

@@ -1,33 +1,23 @@
+use Rattle.std.proofs.Common.{sym, ap, ◌∙◌}
 use Rattle.answers.specs.Answer.Answer.{accepted}
-use Rattle.pauligroup.specs.Calls.{product_call}
-use Rattle.pauligroup.specs.Rows.{no_paulis, unequal, equal}
+use Rattle.answers.specs.Row.{answered_none}
+use Rattle.refusals.proofs.Asked.{asked}
 use Rattle.paulilaws.specs.Pauli.{product}
 use Rattle.paulis.specs.Strings.{pauli_of}
-use mathlib.Core.Bool.{not}
-use mathlib.Core.Path.{sym, ap, ◌∙◌}
+use Rattle.pauligroup.specs.Calls.{pair_row, product_call}
+use Rattle.pauligroup.specs.Rows.{on_pair_row}
 use Rattle.pauligroup.proofs.mul.Goals as goal
 
-pub returns-then-not-is_pauli : goal.returns-then-not-is_pauli
+pub returns-in_err-are_pair : goal.returns-in_err-are_pair
 unfolding product_call
-returns-then-not-is_pauli c =
-    let a = c.args in
-    let P = pauli_of a.lhs in
-    let Q = pauli_of a.rhs in
-    sym (no_paulis P Q (accepted (product P Q)) c.is_pauli.ensures c.is_pauli-2.ensures (ap not c.if-not-is_pauli.true))
-
-pub returns-then-lhs-rhs : goal.returns-then-lhs-rhs
-unfolding product_call
-returns-then-lhs-rhs c =
-    let a = c.args in
-    let P = pauli_of a.lhs in
-    let Q = pauli_of a.rhs in
-    sym (unequal P Q (accepted (product P Q)) c.is_pauli.ensures c.is_pauli-2.ensures (ap not c.if-not-is_pauli.false) c.if-lhs-rhs.true)
+returns-in_err-are_pair c =
+    let P = pauli_of c.args.lhs in
+    let Q = pauli_of c.args.rhs in
+    asked _ _ _ pauli_of (product P Q) c.from_residual.ensures.1 c.in_err-are_pair.ensures ∙ sym (on_pair_row P Q (product P Q))
 
 pub returns : goal.returns
 unfolding product_call
 returns c =
-    let a = c.args in
-    let P = pauli_of a.lhs in
-    let Q = pauli_of a.rhs in
-    ap accepted c.times.ensures
-    ∙ sym (equal P Q (accepted (product P Q)) c.is_pauli.ensures c.is_pauli-2.ensures (ap not c.if-not-is_pauli.false) c.if-lhs-rhs.false)
+    let P = pauli_of c.args.lhs in
+    let Q = pauli_of c.args.rhs in
+    ap accepted c.times.ensures ∙ sym (on_pair_row P Q (product P Q) ∙ answered_none (pair_row P Q) _ (sym c.in_ok-are_pair.ensures))

@@ -1,34 +1,26 @@
-use mathlib.Core.Path.{sym, ap, ◌∙◌}
+use Rattle.std.specs.Prelude.{Bool, eqb}
+use Rattle.std.proofs.Common.{sym, ap, ◌∙◌}
 use Rattle.answers.specs.Answer.Answer.{accepted}
-use Rattle.pauligroup.specs.Calls.{anticommutes_call}
-use Rattle.pauligroup.specs.Rows.{no_paulis, unequal, equal}
+use Rattle.answers.specs.Row.{answered_none}
+use Rattle.refusals.proofs.Asked.{asked}
 use Rattle.paulilaws.specs.Pauli.{anti}
-use lib.Dec.{eqb}
 use Rattle.paulis.specs.Strings.{pauli_of}
-use mathlib.Core.Bool.{not}
+use Rattle.pauligroup.specs.Calls.{pair_row, anticommutes_call}
+use Rattle.pauligroup.specs.Rows.{on_pair_row}
 use Rattle.pauligroup.proofs.pauli_anticommutes.Goals as goal
 
-pub returns-then-not-is_pauli : goal.returns-then-not-is_pauli
+pub returns-in_err-are_pair : goal.returns-in_err-are_pair
 unfolding anticommutes_call
-returns-then-not-is_pauli c =
-    let a = c.args in
-    let P = pauli_of a.a in
-    let Q = pauli_of a.b in
-    sym (no_paulis P Q (accepted (eqb (anti P Q) 1)) c.is_pauli.ensures c.is_pauli-2.ensures (ap not c.if-not-is_pauli.true))
-
-pub returns-then-a-b : goal.returns-then-a-b
-unfolding anticommutes_call
-returns-then-a-b c =
-    let a = c.args in
-    let P = pauli_of a.a in
-    let Q = pauli_of a.b in
-    sym (unequal P Q (accepted (eqb (anti P Q) 1)) c.is_pauli.ensures c.is_pauli-2.ensures (ap not c.if-not-is_pauli.false) c.if-a-b.true)
+returns-in_err-are_pair c =
+    let P = pauli_of c.args.a in
+    let Q = pauli_of c.args.b in
+    let apart : Bool = eqb (anti P Q) 1 in
+    asked _ _ _ (λ (b : Bool). b) apart c.from_residual.ensures.1 c.in_err-are_pair.ensures ∙ sym (on_pair_row P Q apart)
 
 pub returns : goal.returns
 unfolding anticommutes_call
 returns c =
-    let a = c.args in
-    let P = pauli_of a.a in
-    let Q = pauli_of a.b in
+    let P = pauli_of c.args.a in
+    let Q = pauli_of c.args.b in
     ap accepted c.anticommute.ensures
-    ∙ sym (equal P Q (accepted (eqb (anti P Q) 1)) c.is_pauli.ensures c.is_pauli-2.ensures (ap not c.if-not-is_pauli.false) c.if-a-b.false)
+    ∙ sym (on_pair_row P Q (eqb (anti P Q) 1) ∙ answered_none (pair_row P Q) _ (sym c.in_ok-are_pair.ensures))

@@ -1,23 +1,24 @@
-use mathlib.Core.Path.{sym, ap, ◌∙◌}
+use Rattle.std.specs.Prelude.{Bool, ℕ, ◌%◌, eqb}
+use Rattle.std.proofs.Common.{sym, ap, ◌∙◌}
 use Rattle.answers.specs.Answer.Answer.{accepted}
-use Prim.Native.Nat.{ℕ, ◌%◌}
-use lib.Dec.{eqb}
-use Rattle.pauligroup.specs.Calls.{squares_call}
-use Rattle.paulis.specs.Rows.{no_pauli, a_pauli}
-use Rattle.paulilaws.specs.Pauli.{hermitian}
+use Rattle.refusals.proofs.Asked.{refused_by}
+use Rattle.paulilaws.specs.Pauli.{coefficient, hermitian}
 use Rattle.paulis.specs.Strings.{pauli_of}
-use mathlib.Core.Bool.{not}
+use Rattle.paulis.proofs.Checked.{value_told, told_refuses, told_passes}
+use Rattle.pauligroup.specs.Calls.{coefficient_call, squares_call}
 use Rattle.pauligroup.proofs.pauli_squares_to_identity.Goals as goal
 
-pub returns-then-not-is_pauli : goal.returns-then-not-is_pauli
-unfolding squares_call
-returns-then-not-is_pauli c =
+pub returns-in_err-coefficient_phase : goal.returns-in_err-coefficient_phase
+unfolding squares_call coefficient_call
+returns-in_err-coefficient_phase c =
     let P = pauli_of c.args.pauli in
-    sym (no_pauli P (accepted (hermitian P)) c.is_pauli.ensures (ap not c.if-not-is_pauli.true))
+    refused_by (λ (b : Bool). b) _ _ c.from_residual.ensures.1
+    ∙ sym (told_refuses P (coefficient P) c.in_err-coefficient_phase.ensures (accepted (hermitian P)))
 
 pub returns : goal.returns
-unfolding squares_call hermitian
+unfolding squares_call coefficient_call hermitian
 returns c =
     let P = pauli_of c.args.pauli in
-    ap (λ (n : ℕ). accepted (eqb (n % 2) 0)) c.coefficient.ensures
-    ∙ sym (a_pauli P (accepted (hermitian P)) c.is_pauli.ensures (ap not c.if-not-is_pauli.false))
+    let told = c.in_ok-coefficient_phase.ensures in
+    ap (λ (n : ℕ). accepted (eqb (n % 2) 0)) (value_told P (coefficient P) told).1
+    ∙ sym (told_passes P (coefficient P) told (accepted (hermitian P)))

@@ -8,7 +8,7 @@ use Rattle.paulilaws.proofs.Fitting.{fits_admitted}
 use Rattle.pauligroup.specs.Calls.{coefficient_call}
 use Rattle.paulis.specs.Strings.{pauli_of}
 use Rattle.paulis.proofs.Told.{row_refuses, row_passes}
-use Rattle.paulitext.proofs.Walk.{value_told, refused_told}
+use Rattle.paulis.proofs.Checked.{value_told, refused_told}
 use Rattle.paulitext.proofs.Showing.{shown_no_pauli, shown_short, shown_all}
 use Rattle.paulitext.proofs.display.Goals as goal
 

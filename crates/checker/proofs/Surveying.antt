@@ -2,15 +2,12 @@
 use mathlib.Core.Path.{◌≡◌, refl, sym, ap, ◌∙◌}
 use mathlib.Core.List.{List, [], ◌∷◌}
 use mathlib.Core.Bool.{Bool, true, false, cond, not}
-use mathlib.Core.Logic.{⊎_elim}
 use Prim.Native.Nat.{ℕ, ◌≤◌, ◌<◌}
 use native.Mathlib.Omega.{arith}
 use lib.Dec.{ltb}
 use lib.Ieee.{Float}
 use lib.Ieee.Scale.{finite}
 use lib.ListN.{length}
-use types.Run.{OneOf}
-use denote.Enum.Declared.{tag_of}
 use Rattle.answers.specs.Answer.{Answer}
 use Rattle.answers.specs.Answer.Answer.{accepted, refused_at}
 use Rattle.answers.specs.Row.{row, first_passed}
@@ -24,16 +21,13 @@ use Rattle.amplitudelaws.specs.Step.Step.{rotation, promotion, projection, corre
 use Rattle.framelaws.specs.Survey.{Survey, outset, surveyed, survey_from, survey}
 use Rattle.runlaws.specs.Field.{most_bytes}
 use Rattle.runlaws.specs.Reading.{Cursor, read_at}
-use Rattle.runlaws.specs.Reading.Read.{step_read}
+use Rattle.runlaws.specs.Reading.Read.{step_read, end_read, refused_read}
 use Rattle.runlaws.specs.Run.{mapped, ended, walk}
 use Rattle.runlaws.specs.Walk.{Left, left_outset, left_step, left_end, left_refused}
 use Rattle.runlaws.specs.Fields.{step_read_lem, size_ge}
 use Rattle.runlaws.specs.Mapped.{mapped_mapped}
-use Rattle.steps.specs.contracts.Read.{the_type}
-use Rattle.steps.specs.declared.Read as declared
-use Rattle.steps.specs.declared.Read.TheVariants as read
-use Rattle.steps.specs.Meaning.{cursor_of, read_of}
-use Rattle.checker.specs.Surveyed.{Measured, Surveyable, ended_by}
+use borrow.Author.Tests.{lt-ltb, le-ltb}
+use Rattle.checker.specs.Surveyed.{Measured, Surveyable}
 
 -- v is the survey of the steps before the cursor, `all` that of the run; a step takes more bytes than one
 pub record Surveying (caller : Caller) (s : List ℕ) (all : Answer Survey) (c : Cursor) (v : Survey) : Type 0 where
@@ -73,14 +67,14 @@ at_start caller s n h short = record {
 }
 
 module _ {caller : Caller} {s : List ℕ} {all : Answer Survey} {c : Cursor} {v : Survey} (k : Surveying caller s all c v) where
-  module _ (t : Step Float) (d : Cursor) (e : read_at caller s c ≡ step_read t d) where
+  module _ (t : Step Float) (d : Cursor) (e : step_read t d ≡ read_at caller s c) where
     -- the cursor moves on
     pub moves : (c.at < d.at) × (d.at ≤ length s)
-    moves = let r = step_read_lem caller s c d t e in (omega (arith, r.next, size_ge t), r.inside)
+    moves = let r = step_read_lem caller s c d t (sym e) in (omega (arith, r.next, size_ge t), r.inside)
 
     pub surveyable : Surveyable v t d.width
     surveyable =
-        let r = step_read_lem caller s c d t e in
+        let r = step_read_lem caller s c d t (sym e) in
         let m = moves in
         record {
           few = omega (arith, k.few, k.left.short);
@@ -91,9 +85,9 @@ module _ {caller : Caller} {s : List ℕ} {all : Answer Survey} {c : Cursor} {v 
     pub one_more : Surveying caller s all d (surveyed v t)
     unfolding surveyed survey_from
     one_more =
-        let r = step_read_lem caller s c d t e in
+        let r = step_read_lem caller s c d t (sym e) in
         let m = moves in
-        let l = left_step k.left t d e in
+        let l = left_step k.left t d (sym e) in
         record {
           rest = l.after;
           left = l.left;
@@ -105,9 +99,18 @@ module _ {caller : Caller} {s : List ℕ} {all : Answer Survey} {c : Cursor} {v 
   answered : (rest : Answer (List (Step Float))) → k.rest ≡ rest → mapped (survey_from v) rest ≡ all
   answered rest e = sym (ap (mapped (survey_from v)) e) ∙ k.same
 
-  -- what is no step ends the survey
-  pub no_step_lem : (r : declared.Read) → read_of r ≡ read_at caller s c → OneOf (1 ∷ 2 ∷ []) (tag_of the_type r) → ended_by (length s) (read_of r) v ≡ all
-  unfolding ended_by mapped ended
-  no_step_lem (read.Step t d) e h = absurd (⊎_elim (λ e. omega arith) (λ e. omega arith) h)
-  no_step_lem (read.End d) e h = end_answer v (ltb d.at (length s)) d.at ∙ answered _ (left_end k.left (cursor_of d) (sym e))
-  no_step_lem (read.Refused n at) e h = answered _ (left_refused k.left n at (sym e))
+  -- a refusal ends the survey
+  pub refused : (n at : ℕ) → refused_read n at ≡ read_at caller s c → refused_at n at ≡ all
+  unfolding mapped
+  refused n at e = answered _ (left_refused k.left n at (sym e))
+
+  -- and so does the end field, with bytes past it or none
+  at_end : (d : Cursor) → end_read d ≡ read_at caller s c → cond (ltb d.at (length s)) (refused_at 14 d.at) (accepted v) ≡ all
+  unfolding ended
+  at_end d e = end_answer v (ltb d.at (length s)) d.at ∙ answered _ (left_end k.left d (sym e))
+
+  pub past_end : (d : Cursor) → end_read d ≡ read_at caller s c → d.at < length s → refused_at 14 d.at ≡ all
+  past_end d e h = rw (lt-ltb d.at (length s) h) at (at_end d e)
+
+  pub ended_here : (d : Cursor) → end_read d ≡ read_at caller s c → length s ≤ d.at → accepted v ≡ all
+  ended_here d e h = rw (le-ltb d.at (length s) h) at (at_end d e)

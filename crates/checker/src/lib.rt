@@ -4,20 +4,20 @@
 // file order, with its place.
 #![tactic(auto)]
 
-ghost use Rattle.std.specs.Prelude.{◌≡◌, ◌≤◌, max, length};
-ghost use Rattle.framelaws.specs.Caller.{service, service_within, emulator};
+ghost use Rattle.std.specs.Prelude.{◌≡◌, ◌≤◌, length};
 ghost use Rattle.framelaws.specs.Survey.{survey, mixed_amplitudes};
 ghost use Rattle.framelaws.specs.Survey as frame;
+ghost use Rattle.refusals.specs.Refusal.{row_at_answer_of};
 ghost use Rattle.runlaws.specs.Field.{most_bytes};
 ghost use Rattle.runlaws.specs.Run.{mapped, walk};
 ghost use Rattle.runlaws.specs.Calls.{checking, checking_with_start};
-ghost use Rattle.callers.specs.Meaning.{caller_of};
-ghost use Rattle.steps.specs.Meaning.{step_of, read_of};
-ghost use Rattle.checker.specs.Surveyed.{Measured, Surveyable, ended_by};
-ghost use Rattle.checker.specs.Meaning.{survey_fields_of, check_answer_of, checked_of};
+ghost use Rattle.callers.specs.Meaning.{limits_of};
+ghost use Rattle.steps.specs.Meaning.{step_of};
+ghost use Rattle.checker.specs.Surveyed.{Measured, Surveyable};
+ghost use Rattle.checker.specs.Meaning.{survey_fields_of, checked_of};
 
-use callers::Caller;
-use fields::StartAnswer;
+use callers::Limits;
+use refusals::{Row, RowAt};
 use steps::{Cursor, Read, Step};
 
 #[repr(C)]
@@ -29,71 +29,49 @@ pub struct Survey {
     pub scratch: usize,
 }
 
-#[derive(Clone, Copy)]
-pub enum CheckAnswer {
-    Run(Survey),
-    Refused(u8, usize),
-}
-
 // The width that a run starts at, and its survey.
 #[derive(Clone, Copy)]
-pub enum Checked {
-    Run(usize, Survey),
-    Refused(u8, usize),
+pub struct Checked {
+    pub start: usize,
+    pub survey: Survey,
 }
 
-// A run of the service.
-pub fn check_run(run: &[u8]) -> CheckAnswer
-    ensures { check_answer_of result ≡ checking service run.now }
+// A run under a caller's limits, or under the service's rows and any limit on the width.
+pub fn check_run(run: &[u8], limits: Limits) -> Result<Survey, RowAt>
+    ensures { row_at_answer_of survey_fields_of result ≡ checking (limits_of limits) run.now }
 {
-    check_for(run, Caller::service())
+    let checked = check_with_start(run, limits)?;
+    Ok(checked.survey)
 }
 
-// A run of the emulator.
-pub fn check_emulated(run: &[u8]) -> CheckAnswer
-    ensures { check_answer_of result ≡ checking emulator run.now }
+// The same, with the width that it starts at.
+pub fn check_with_start(run: &[u8], limits: Limits) -> Result<Checked, RowAt>
+    ensures { row_at_answer_of checked_of result ≡ checking_with_start (limits_of limits) run.now }
 {
-    check_for(run, Caller::Emulator)
-}
-
-// A run under the service's rows and any limit on the width.
-pub fn check_within(run: &[u8], limit: usize) -> CheckAnswer
-    ensures { check_answer_of result ≡ checking (service_within limit) run.now }
-{
-    check_for(run, Caller::Service(limit))
-}
-
-fn check_for(run: &[u8], caller: Caller) -> CheckAnswer
-    ensures { check_answer_of result ≡ checking (caller_of caller) run.now }
-{
-    match check_with_start(run, caller) {
-        Checked::Refused(row, at) => CheckAnswer::Refused(row, at),
-        Checked::Run(_, survey) => CheckAnswer::Run(survey),
-    }
-}
-
-// A run of any caller's, with the width that it starts at.
-pub fn check_with_start(run: &[u8], caller: Caller) -> Checked
-    ensures { checked_of result ≡ checking_with_start (caller_of caller) run.now }
-{
-    let StartAnswer::Width(width) = fields::start(run) else {
-        // Too long, or without a start field.
-        return Checked::Refused(14, 0);
+    // Too long, or without a start field.
+    let unbegun = RowAt {
+        row: Row::BadField,
+        at: 0,
     };
-    if caller.widest() < width {
-        return Checked::Refused(caller.start_row(), 0);
+    let width = fields::start(run).ok_or(unbegun)?;
+    if limits.widest() < width {
+        return Err(RowAt {
+            row: limits.start_row(),
+            at: 0,
+        });
     }
-    match survey_steps(run, width, caller) {
-        CheckAnswer::Refused(row, at) => Checked::Refused(row, at),
-        CheckAnswer::Run(survey) => Checked::Run(width, survey),
-    }
+    let survey = survey_steps(run, width, limits)?;
+    Ok(Checked {
+        start: width,
+        survey,
+    })
 }
 
 // The fields behind the start field, one after the other.
-fn survey_steps(run: &[u8], width: usize, caller: Caller) -> CheckAnswer
+fn survey_steps(run: &[u8], width: usize, limits: Limits) -> Result<Survey, RowAt>
     requires { (4 ≤ length run.now) × (length run.now ≤ most_bytes) }
     ensures { let s = run.now in
-        check_answer_of result ≡ mapped (survey width) (walk (caller_of caller) (length s) s (record { at = 4; width = width })) }
+        row_at_answer_of survey_fields_of result ≡ mapped (survey width) (walk (limits_of limits) (length s) s (record { at = 4; width = width })) }
 {
     let mut cursor = Cursor {
         at: fields::START_BYTES,
@@ -106,30 +84,20 @@ fn survey_steps(run: &[u8], width: usize, caller: Caller) -> CheckAnswer
         scratch: 0,
     };
     loop {
-        let got = reader::read(run, cursor, caller);
-        let Read::Step(step, next) = got else {
-            return ended(run.len(), got, survey);
-        };
-        survey = surveyed(survey, step, next.width);
-        cursor = next;
-    }
-}
-
-// The answer to a read that is no step: the refusal with its place; at the end field the survey, or 14 at
-// the first byte past it.
-fn ended(size: usize, got: Read, survey: Survey) -> CheckAnswer
-    ensures { check_answer_of result ≡ ended_by size (read_of got) (survey_fields_of survey) }
-{
-    match got {
-        Read::Refused(row, at) => CheckAnswer::Refused(row, at),
-        Read::End(last) => {
-            if last.at < size {
-                return CheckAnswer::Refused(14, last.at);
+        match reader::read(run, cursor, limits)? {
+            Read::Step(step, next) => {
+                survey = surveyed(survey, step, next.width);
+                cursor = next;
             }
-            CheckAnswer::Run(survey)
+            // Bytes past the end field are refused at the first of them.
+            Read::End(last) if last.at < run.len() => {
+                return Err(RowAt {
+                    row: Row::BadField,
+                    at: last.at,
+                });
+            }
+            Read::End(_) => return Ok(survey),
         }
-        // Never: the loop goes on behind a step.
-        Read::Step(_, next) => CheckAnswer::Refused(14, next.at),
     }
 }
 
@@ -141,15 +109,9 @@ fn surveyed(survey: Survey, step: Step, width: usize) -> Survey
     Survey {
         width,
         steps: survey.steps + 1,
-        greatest: larger(survey.greatest, width),
-        scratch: larger(survey.scratch, mixed_amplitudes(survey.width, step)),
+        greatest: survey.greatest.max(width),
+        scratch: survey.scratch.max(mixed_amplitudes(survey.width, step)),
     }
-}
-
-fn larger(a: usize, b: usize) -> usize
-    ensures { result ≡ max a b }
-{
-    if a < b { b } else { a }
 }
 
 // How many amplitudes the step, at this width, makes in the scratch.
@@ -158,15 +120,12 @@ fn mixed_amplitudes(width: usize, step: Step) -> usize
     ensures { result ≡ mixed_amplitudes width (step_of step) }
 {
     match step {
-        Step::Rotation(_, _, _, _) => 0,
-        Step::Promotion(_, _) => 0,
-        Step::Projection(pauli, _, _, _) => {
+        Step::Projection(pauli, ..) => {
             if pauli.x == 0 {
                 return 0;
             }
             1usize << (width - 1)
         }
-        Step::Correction(_) => 0,
-        Step::QuarterTurn(_) => 0,
+        Step::Rotation(..) | Step::Promotion(..) | Step::Correction(_) | Step::QuarterTurn(_) => 0,
     }
 }

@@ -1,4 +1,3 @@
--- `checker::check_with_start` meets its contract.
 -- the start width beside the survey
 use mathlib.Core.Path.{◌≡◌, sym, ap, ◌∙◌}
 use mathlib.Core.List.{List}
@@ -18,8 +17,8 @@ use Rattle.runlaws.specs.Run.{Run, mapped, walk, start_width, run_of}
 use Rattle.runlaws.specs.Mapped.{mapped_mapped}
 use Rattle.runlaws.specs.WholeRun.{start_read, run_too_wide, run_begun}
 use Rattle.fields.proofs.Started.{started, unstarted}
-use Rattle.checker.specs.Meaning.{check_answer_of}
-use borrow.Author.Rules.{rules}
+use Rattle.refusals.specs.declared.Row.TheVariants.{BadField}
+use Rattle.refusals.proofs.Asked.{refused_at_row}
 use Rattle.checker.proofs.check_with_start.Goals as goal
 
 unbegun : (caller : Caller) (s : List ℕ) → run_of caller s ≡ refused_at 14 0 → refused_at 14 0 ≡ checking_with_start caller s
@@ -45,27 +44,31 @@ begun caller s n short e within a is =
     ∙ mapped_mapped (beside n) (survey n) steps
     ∙ sym (ap (mapped checked_run_of) (run_begun caller s short n e within) ∙ mapped_mapped checked_run_of whole steps)
 
-pub returns-in_default : goal.returns-in_default
-returns-in_default c = unbegun _ _ (unstarted _ c.start.ensures c.in_default.is _)
+pub returns-in_err-width : goal.returns-in_err-width
+returns-in_err-width c =
+    let none = rw c.in_err-width.ensures.ok_part at c.start.ensures in
+    let value = rw c.in_err-width.ensures.ok_part at c.in_err-width.ensures.value in
+    let same : c.in_err-width.field-0.0 ≡ record { row = BadField; at = 0 } = cc in
+    refused_at_row _ _ _ c.from_residual.ensures.1 ∙ rw same (unbegun _ _ (unstarted _ none _))
 
 pub returns-then-widest-width : goal.returns-then-widest-width
 returns-then-widest-width c =
-    let begins = started _ c.start.ensures c.in-Width.is in
+    let begins = started _ (rw c.in_ok-width.ensures.ok_part at c.start.ensures) in
     rw c.start_row.ensures (too_wide _ _ _ begins.0 begins.1 (omega (arith, c.widest.ensures)))
 
 pub survey_steps-requires : goal.survey_steps-requires
 survey_steps-requires c =
-    let begins = started _ c.start.ensures c.in-Width.is in
+    let begins = started _ (rw c.in_ok-width.ensures.ok_part at c.start.ensures) in
     ((start_read _ _ begins.1).begins, begins.0)
 
-pub returns-in-Refused : goal.returns-in-Refused
+pub returns-in_err-survey : goal.returns-in_err-survey
 unfolding mapped beside
-returns-in-Refused c =
-    let begins = started _ c.start.ensures c.in-Width.is in
-    begun _ _ _ begins.0 begins.1 (omega (arith, c.widest.ensures)) _ (ap check_answer_of (sym c.in-Refused.is) ∙ c.survey_steps.ensures)
+returns-in_err-survey c =
+    let begins = started _ (rw c.in_ok-width.ensures.ok_part at c.start.ensures) in
+    refused_at_row _ _ _ c.from_residual-in_err-survey.ensures.1 ∙ begun _ _ _ begins.0 begins.1 (omega (arith, c.widest.ensures)) _ c.in_err-survey.ensures
 
-pub returns-in-Run : goal.returns-in-Run
+pub returns : goal.returns
 unfolding mapped beside
-returns-in-Run c =
-    let begins = started _ c.start.ensures c.in-Width.is in
-    begun _ _ _ begins.0 begins.1 (omega (arith, c.widest.ensures)) _ (ap check_answer_of (sym c.in-Run.is) ∙ c.survey_steps.ensures)
+returns c =
+    let begins = started _ (rw c.in_ok-width.ensures.ok_part at c.start.ensures) in
+    begun _ _ _ begins.0 begins.1 (omega (arith, c.widest.ensures)) _ c.in_ok-survey.ensures

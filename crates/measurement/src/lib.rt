@@ -67,6 +67,7 @@ pub fn project_contiguous(
         (step_answer_of result ≡ did.answer) × (memory_of re.new im.new scratch_re.new scratch_im.new ≡ did.lent) }
 {
     projection_row(re, im, scratch_re, scratch_im, pauli, pivot, invnorm)?;
+    // Never refused here: its rows are among those that were asked.
     let kernel = PrecomputedActivePauliMeasurementKernel::with_pivot(pauli, pivot)?;
     let measured = Measured { kernel, branch };
     measured.project(re, im, scratch_re, scratch_im, invnorm);

@@ -50,6 +50,7 @@ pub fn rotate_contiguous_active(
 impl Rotation {
     // By the loop for the kernel's case. `re` and `im` stay two slices: a struct of two `&mut` would want two clauses more of
     // each function, that either field keeps its reference.
+    #[tactic(auto, unfolding(crate::specs::Kernel::by_kernel, amplitudelaws::specs::Rotation::rotated_by))]
     fn rotate(self, re: &mut [f64], im: &mut [f64])
         requires { Room self.kernel.action.nqubits re.old im.old }
         ensures { state_of re.new im.new ≡ by_kernel (rotation_kernel_of self.kernel) (bit_of self.sign) (state_of re.old im.old) }

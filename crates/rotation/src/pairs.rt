@@ -63,6 +63,7 @@ impl Rotation {
     }
 
     // m, times -1 where the sign differs from the parity at the partner, else times 1.
+    #[tactic(auto, using(amplitudelaws::specs::Arithmetic::direction_bit))]
     fn coefficient(self, partner: u64) -> Complex64
         ensures { let K = rotation_kernel_of self.kernel in
             complex_of result ≡ scale binary (direction binary (bit_of self.sign + overlap partner K.action.z)) K.m }

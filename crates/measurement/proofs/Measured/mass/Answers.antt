@@ -26,9 +26,6 @@ loop-j-init c =
     let a = c.args in
     none (measurement_kernel_of a.self.kernel) (bit_of a.self.branch) (state_of a.re.now a.im.now)
 
-pub remaining-requires : goal.remaining-requires
-remaining-requires c = (omega (arith, c.args.self.projectable.outputs), c.requires)
-
 pub loop-j-preserved : goal.loop-j-preserved
 loop-j-preserved c =
     let a = c.args in

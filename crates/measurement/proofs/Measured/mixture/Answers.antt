@@ -27,9 +27,6 @@ module _ (K : MeasurementKernel) (v : Bool) (F : ℕ → Point) (j : ℕ) (d : K
       → a ≡ mixed binary binary.h w p q → a ≡ kernel_remaining K (bit_of v) F j
   made s w p q a es ew ep eq ea = rw (ea, ew, es, ep, eq) (sym (mixing_left K v F j d b o t odd))
 
-pub open_bit-source0-requires : goal.open_bit-source0-requires
-open_bit-source0-requires c = let m = c.args.self.projectable in omega (arith, pivot_low m)
-
 basis : (c : After-open_bit-source0) → let a = c.args in c.open_bit-source0.result ≡ open_bit a.self.kernel.pivot a.j
 basis c =
     let m = c.args.self.projectable in

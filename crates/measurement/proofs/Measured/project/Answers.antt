@@ -43,9 +43,6 @@ unfolding kernel_scratch
 returns-then-self c =
     memory_same c.project_diagonal.ensures (rw c.if-self.true)
 
-pub project_to_scratch-requires : goal.project_to_scratch-requires
-project_to_scratch-requires c = (c.if-self.false, c.requires.0, c.requires.1 c.if-self.false)
-
 made_room : (c : After-project_to_scratch) → let n = c.args.self.kernel.action.nqubits in
     HasRoom (n - 1) (state_of c.project_to_scratch.new.scratch_re c.project_to_scratch.new.scratch_im)
 made_room c = room_written _ _ _ _ c.project_to_scratch.ensures (c.requires.1 c.if-self.false)

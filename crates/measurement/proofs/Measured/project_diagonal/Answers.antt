@@ -11,11 +11,11 @@ use Rattle.bitlaws.proofs.Source.{source_ge}
 use Rattle.amplitudelaws.specs.Arithmetic.{scaled}
 use Rattle.amplitudelaws.specs.Binary.{binary, Point}
 use Rattle.amplitudelaws.specs.State.{State, state_of, point}
-use Rattle.amplitudelaws.specs.Sweeping.{sweeping_none, one_ahead, one_more}
+use Rattle.amplitudelaws.specs.Sweeping.{one_ahead, one_more}
 use Rattle.amplitudelaws.proofs.Sweeping.{one_all}
 use Rattle.kernels.specs.Kernel.{MeasurementKernel, measurement_kernel_of}
 use Rattle.measurement.specs.Measured.{kernel_projected}
-use Rattle.measurement.proofs.Leaving.{room_half, pivot_low, output_low, source_inside, diagonal_left}
+use Rattle.measurement.proofs.Leaving.{source_inside, diagonal_left}
 use Rattle.measurement.proofs.Measured.project_diagonal.Goals as goal
 
 module _ (K : MeasurementKernel) (v : Bool) (invnorm : Float) (j from : ℕ) (diagonal : K.diagonal ≡ true)
@@ -28,29 +28,12 @@ module _ (K : MeasurementKernel) (v : Bool) (invnorm : Float) (j from : ℕ) (di
 not_behind : (p z e j from : ℕ) → from ≡ source p z e j → j ≤ from
 not_behind p z e j from q = omega (arith, source_ge p z e j)
 
-pub loop-j-init : goal.loop-j-init
-loop-j-init c =
-    let a = c.args in
-    let room = room_half a.self.kernel.action.nqubits (state_of a.re.now a.im.now) c.requires.1 in
-    sweeping_none room.0 room.1
-
-pub source-from-requires : goal.source-from-requires
-source-from-requires c =
-    let m = c.args.self.projectable in
-    (pivot_low m, output_low m c.loop-j.j (omega (arith, m.outputs)))
-
 pub read-a-requires : goal.read-a-requires
 read-a-requires c =
     let m = c.args.self.projectable in
     let swept = c.loop-j.invariant in
     let inside = source_inside m c.loop-j.j (omega (arith, m.outputs)) _ _ c.source-from.ensures in
     omega (arith, inside, swept.re.len, swept.im.len, c.requires.1)
-
-pub write-requires : goal.write-requires
-write-requires c =
-    let m = c.args.self.projectable in
-    let swept = c.loop-j.invariant in
-    omega (arith, m.outputs, swept.re.room, swept.im.room, swept.re.len, swept.im.len)
 
 pub loop-j-preserved : goal.loop-j-preserved
 loop-j-preserved c =

@@ -6,7 +6,7 @@ use Rattle.bitlaws.specs.Digit.{bit_of}
 use Rattle.amplitudelaws.specs.Arithmetic.{scaled}
 use Rattle.amplitudelaws.specs.Binary.{binary, Point}
 use Rattle.amplitudelaws.specs.State.{State, state_of, point}
-use Rattle.amplitudelaws.specs.Sweeping.{sweeping_none, one_more}
+use Rattle.amplitudelaws.specs.Sweeping.{one_more}
 use Rattle.amplitudelaws.proofs.Sweeping.{one_all}
 use Rattle.kernels.specs.Kernel.{MeasurementKernel, measurement_kernel_of}
 use Rattle.measurement.specs.Measured.{kernel_remaining, kernel_projected}
@@ -16,20 +16,6 @@ made : (K : MeasurementKernel) (v : ℕ) (invnorm : Float) (S : State) (j : ℕ)
     → p ≡ kernel_remaining K v (point S) j → a ≡ scaled binary p invnorm → a ≡ kernel_projected K v invnorm S j
 unfolding kernel_projected
 made K v invnorm S j p a ep ea = ea ∙ ap (λ (q : Point). scaled binary q invnorm) ep
-
-pub loop-j-init : goal.loop-j-init
-loop-j-init c = let room = c.requires.2 in sweeping_none room.0 room.1
-
-pub mixture-requires : goal.mixture-requires
-mixture-requires c =
-    let pre = c.requires in
-    (pre.0, omega (arith, c.args.self.projectable.outputs), pre.1)
-
-pub write-requires : goal.write-requires
-write-requires c =
-    let m = c.args.self.projectable in
-    let swept = c.loop-j.invariant in
-    omega (arith, m.outputs, swept.re.room, swept.im.room, swept.re.len, swept.im.len)
 
 pub loop-j-preserved : goal.loop-j-preserved
 loop-j-preserved c =

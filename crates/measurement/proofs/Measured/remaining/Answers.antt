@@ -1,18 +1,10 @@
 use mathlib.Core.Path.{sym, ap, ◌∙◌}
 use native.Mathlib.Omega.{arith}
-use borrow.Author.Tests.{not-true, not-false}
+use borrow.Author.Tests.{not-false}
 use Rattle.amplitudelaws.specs.State.{state_of, point}
 use Rattle.kernels.specs.Kernel.{measurement_kernel_of}
-use Rattle.measurement.proofs.Leaving.{pivot_low, output_low, source_inside, diagonal_left}
+use Rattle.measurement.proofs.Leaving.{source_inside, diagonal_left}
 use Rattle.measurement.proofs.Measured.remaining.Goals as goal
-
-pub mixture-requires : goal.mixture-requires
-mixture-requires c =
-    (not-true c.args.self.kernel.is_diagonal c.if-not-kernel.true, c.requires.0, c.requires.1)
-
-pub source-from-requires : goal.source-from-requires
-source-from-requires c =
-    (pivot_low c.args.self.projectable, output_low c.args.self.projectable c.args.j c.requires.0)
 
 pub read-requires : goal.read-requires
 read-requires c =

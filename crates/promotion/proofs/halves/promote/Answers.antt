@@ -1,30 +1,13 @@
 use mathlib.Core.Path.{ap}
 use Prim.Native.Nat.{ℕ, ◌+◌, ◌^◌, ◌<◌}
-use native.Mathlib.Nat.{pow-suc}
-use lib.Pow.{pow_mono}
 use native.Mathlib.Omega.{arith}
 use Rattle.amplitudelaws.specs.Binary.{binary, Point}
 use Rattle.amplitudelaws.specs.Promotion.{promoted_low}
 use Rattle.amplitudelaws.proofs.Promotion.{promoted_high}
-use Rattle.amplitudelaws.specs.Rows.{widest_promotion}
 use Rattle.amplitudelaws.specs.State.{state_of, point}
 use Rattle.promotion.proofs.NewQubit.{half_ahead, half_more, half_all}
 use Rattle.complex.specs.Complex.{complex_of}
 use Rattle.promotion.proofs.halves.promote.Goals as goal
-
-pub overflow_add-dim : goal.overflow_add-dim
-overflow_add-dim c =
-    let narrow = pow_mono {i = c.args.nqubits} {j = widest_promotion} c.requires.0 in
-    omega (arith, narrow)
-
-pub read-p-requires : goal.read-p-requires
-read-p-requires c = omega (arith, pow-suc 2 c.args.nqubits)
-
-pub write-requires : goal.write-requires
-write-requires c = omega (arith, pow-suc 2 c.args.nqubits)
-
-pub write-requires-in-loop-b : goal.write-requires-in-loop-b
-write-requires-in-loop-b c = omega (arith, pow-suc 2 c.args.nqubits)
 
 pub loop-b-preserved : goal.loop-b-preserved
 loop-b-preserved c =

@@ -68,9 +68,9 @@ pub fn mask_fits(words: [u64; 4], width: usize) -> bool
     ensures { result ≡ ltb (mask words) (2 ^ width) }
 {
     word_fits(words[0], width)
-        & word_fits(words[1], above(width, 64))
-        & word_fits(words[2], above(width, 128))
-        & word_fits(words[3], above(width, 192))
+        & word_fits(words[1], width.saturating_sub(64))
+        & word_fits(words[2], width.saturating_sub(128))
+        & word_fits(words[3], width.saturating_sub(192))
 }
 
 // Whether a word is below 2^width.
@@ -81,11 +81,4 @@ pub fn word_fits(word: u64, width: usize) -> bool
         return true;
     }
     word >> width == 0
-}
-
-// How far the width reaches past `start`.
-fn above(width: usize, start: usize) -> usize
-    ensures { result ≡ width - start }
-{
-    if width < start { 0 } else { width - start }
 }

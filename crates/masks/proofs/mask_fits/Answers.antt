@@ -13,7 +13,7 @@ pub returns : goal.returns
 returns c =
     let words = c.args.words in
     let small : Small words = λ i. (let f : Fits w64 (get_or words i 0) = search rules in f.fits) in
-    let second = c.word_fits-2.ensures ∙ ap (λ (n : ℕ). ltb (get_or words 1 0) (2 ^ n)) c.above.ensures in
-    let third = c.word_fits-3.ensures ∙ ap (λ (n : ℕ). ltb (get_or words 2 0) (2 ^ n)) c.above-2.ensures in
-    let last = c.word_fits-4.ensures ∙ ap (λ (n : ℕ). ltb (get_or words 3 0) (2 ^ n)) c.above-3.ensures in
+    let second = c.word_fits-2.ensures ∙ ap (λ (n : ℕ). ltb (get_or words 1 0) (2 ^ n)) c.saturating_sub.ensures in
+    let third = c.word_fits-3.ensures ∙ ap (λ (n : ℕ). ltb (get_or words 2 0) (2 ^ n)) c.saturating_sub-2.ensures in
+    let last = c.word_fits-4.ensures ∙ ap (λ (n : ℕ). ltb (get_or words 3 0) (2 ^ n)) c.saturating_sub-3.ensures in
     rw (c.word_fits.ensures, second, third, last) (mask_below words small c.args.width)

@@ -6,19 +6,18 @@ root=$(dirname "$here")
 built=$root/target/compare
 
 # The proved crates as archives: made anew, which from nothing takes minutes, or those in the folder that
-# NARIBHUSH_ARCHIVES names. `rt lib` makes an archive of a crate that crates.txt lists as a static library; that of
-# kernel_exports_c, which has the names in C of what is in kernel_exports, is libkernel_exports.a here.
+# NARIBHUSH_ARCHIVES names. `rt lib` makes an archive of a crate that crates.txt lists as a static library.
 archives() {
     if [ -z "${NARIBHUSH_ARCHIVES:-}" ]; then
         NARIBHUSH_ARCHIVES=$built/archives
         mkdir -p "$NARIBHUSH_ARCHIVES"
-        for name in pauli_exports kernel_exports_c run_exports; do
+        for name in pauli_exports kernel_exports run_exports; do
             echo "proving and building $name" >&2
             (cd "$root/crates/$name" && rt lib) > "$built/$name.log" 2>&1 || {
                 cat "$built/$name.log" >&2
                 exit 1
             }
-            cp "$root/crates/$name/out/lib$name.a" "$NARIBHUSH_ARCHIVES/lib${name%_c}.a"
+            cp "$root/crates/$name/out/lib$name.a" "$NARIBHUSH_ARCHIVES/lib$name.a"
         done
     fi
     export NARIBHUSH_ARCHIVES=$(cd "$NARIBHUSH_ARCHIVES" && pwd)

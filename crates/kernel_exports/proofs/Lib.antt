@@ -1,1 +1,1 @@
-pub mod Flagged
+pub mod Behind

@@ -1,12 +1,8 @@
 -- The action and the kernels that stand beside a refusal: every number of theirs is 0.
-use Rattle.std.specs.Prelude.{false, Float}
-use Rattle.std.specs.Float.{binary64}
-use Rattle.std.specs.Float.Ieee.{of_bits}
+use Rattle.std.specs.Prelude.{false}
 use Rattle.amplitudelaws.specs.Binary.{Point}
 use Rattle.kernels.specs.Kernel.{Action, RotationKernel, MeasurementKernel}
-
-abbrev pub no_float : Float
-no_float = of_bits binary64 0
+use Rattle.verdicts.specs.Nothing.{no_float}
 
 abbrev pub no_point : Point
 no_point = record { re = no_float; im = no_float }

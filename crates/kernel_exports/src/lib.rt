@@ -9,6 +9,7 @@
 // sets flush-to-zero itself, has subnormal numbers made zeros here too; another rounding mode changes last bits.
 #![tactic(auto)]
 
+mod flagged;
 mod own;
 pub mod seen;
 
@@ -34,103 +35,119 @@ ghost use Rattle.kernels.specs.Kernel.{action_of, pauli_action, rotation_kernel_
 ghost use Rattle.kernels.specs.Kernel.{measurement_kernel_of, measurement_kernel, default_pivot};
 ghost use Rattle.verdicts.specs.Flag.{flag_row};
 ghost use Rattle.verdicts.specs.Verdict.{verdict_of, Seen};
-ghost use Rattle.kernel_exports.specs.Nothing.{no_float, no_action, no_rotation, no_measurement};
+ghost use Rattle.verdicts.specs.Nothing.{no_float};
+ghost use Rattle.kernel_exports.specs.Nothing.{no_action, no_rotation, no_measurement};
 
+use active_seen::SeenActivePauli;
 use activepauli::ActivePauli;
 use complex::Complex64;
 use kernels::{
     ActivePauliAction, PrecomputedActivePauliMeasurementKernel,
     PrecomputedActivePauliRotationKernel,
 };
-use measurement::ProbabilityAnswer;
 use paulis::PauliString;
-use seen::{
-    SeenAction, SeenActivePauli, SeenMeasurementKernel, SeenProbability, SeenRotationKernel,
-};
+use seen::{SeenAction, SeenMeasurementKernel, SeenProbability, SeenRotationKernel};
 use verdicts::{SeenBit, Verdict};
 
-pub fn naribhush_active_mul(lhs: ActivePauli, rhs: ActivePauli) -> SeenActivePauli
+#[unsafe(no_mangle)]
+pub extern "C" fn naribhush_active_mul(lhs: ActivePauli, rhs: ActivePauli) -> SeenActivePauli
     ensures { Seen result.verdict (active_of result.pauli) (book.identity 0) (product_call (active_of lhs) (active_of rhs)) }
 {
-    seen::pauli(lhs.mul(rhs))
+    SeenActivePauli::from(lhs.mul(rhs))
 }
 
-pub fn naribhush_active_anticommutes(a: ActivePauli, b: ActivePauli) -> SeenBit
+#[unsafe(no_mangle)]
+pub extern "C" fn naribhush_active_anticommutes(a: ActivePauli, b: ActivePauli) -> SeenBit
     ensures { Seen result.verdict result.bit false (anticommutes_call (active_of a) (active_of b)) }
 {
-    seen::bit(a.anticommutes(b))
+    SeenBit::from(a.anticommutes(b))
 }
 
-pub fn naribhush_active_is_hermitian(pauli: ActivePauli) -> SeenBit
+#[unsafe(no_mangle)]
+pub extern "C" fn naribhush_active_is_hermitian(pauli: ActivePauli) -> SeenBit
     ensures { Seen result.verdict result.bit false (squares_call (active_of pauli)) }
 {
-    seen::bit(pauli.is_hermitian())
+    SeenBit::from(pauli.is_hermitian())
 }
 
-pub fn naribhush_active_raised(pauli: ActivePauli, exponent: u8) -> SeenActivePauli
+#[unsafe(no_mangle)]
+pub extern "C" fn naribhush_active_raised(pauli: ActivePauli, exponent: u8) -> SeenActivePauli
     ensures { Seen result.verdict (active_of result.pauli) (book.identity 0) (raised_call (active_of pauli) exponent) }
 {
-    seen::pauli(pauli.raised(exponent))
+    SeenActivePauli::from(pauli.raised(exponent))
 }
 
-pub fn naribhush_active_dropped(pauli: ActivePauli, q: usize) -> SeenActivePauli
+#[unsafe(no_mangle)]
+pub extern "C" fn naribhush_active_dropped(pauli: ActivePauli, q: usize) -> SeenActivePauli
     ensures { Seen result.verdict (active_of result.pauli) (book.identity 0) (dropped_call (active_of pauli) q) }
 {
-    seen::pauli(pauli.dropped(q))
+    SeenActivePauli::from(pauli.dropped(q))
 }
 
-pub fn naribhush_active_x_bit(pauli: ActivePauli, q: usize) -> SeenBit
+#[unsafe(no_mangle)]
+pub extern "C" fn naribhush_active_x_bit(pauli: ActivePauli, q: usize) -> SeenBit
     ensures { Seen result.verdict result.bit false (bit_call (active_of pauli) pauli.x q) }
 {
-    seen::bit(pauli.x_bit(q))
+    SeenBit::from(pauli.x_bit(q))
 }
 
-pub fn naribhush_active_z_bit(pauli: ActivePauli, q: usize) -> SeenBit
+#[unsafe(no_mangle)]
+pub extern "C" fn naribhush_active_z_bit(pauli: ActivePauli, q: usize) -> SeenBit
     ensures { Seen result.verdict result.bit false (bit_call (active_of pauli) pauli.z q) }
 {
-    seen::bit(pauli.z_bit(q))
+    SeenBit::from(pauli.z_bit(q))
 }
 
-pub fn naribhush_phase_factor(phase: u8) -> Complex64
+#[unsafe(no_mangle)]
+pub extern "C" fn naribhush_phase_factor(phase: u8) -> Complex64
     ensures { complex_of result ≡ formula.power binary (phase % 4) }
 {
     complex::phase_factor(phase)
 }
 
-pub fn naribhush_action(pauli: PauliString) -> SeenAction
+#[unsafe(no_mangle)]
+pub extern "C" fn naribhush_action(pauli: PauliString) -> SeenAction
     ensures { let P = pauli_of pauli in
         Seen result.verdict (action_of result.action) no_action (answered (action_row P) (pauli_action P)) }
 {
-    seen::action(ActivePauliAction::new(pauli))
+    SeenAction::from(ActivePauliAction::new(pauli))
 }
 
-pub fn naribhush_rotation_kernel(pauli: ActivePauli, c: f64, s: f64) -> SeenRotationKernel
+#[unsafe(no_mangle)]
+pub extern "C" fn naribhush_rotation_kernel(
+    pauli: ActivePauli,
+    c: f64,
+    s: f64,
+) -> SeenRotationKernel
     ensures { let P = active_of pauli in
         let made = answered (rotation_kernel_row P c s) (rotation_kernel P c s) in
         Seen result.verdict (rotation_kernel_of result.kernel) no_rotation made }
 {
-    seen::rotation(PrecomputedActivePauliRotationKernel::new(pauli, c, s))
+    SeenRotationKernel::from(PrecomputedActivePauliRotationKernel::new(pauli, c, s))
 }
 
-pub fn naribhush_from_pauli(pauli: ActivePauli) -> SeenMeasurementKernel
+#[unsafe(no_mangle)]
+pub extern "C" fn naribhush_from_pauli(pauli: ActivePauli) -> SeenMeasurementKernel
     ensures { let M = active_of pauli in
         let p = default_pivot M in
         let made = answered (measurement_row M p false) (measurement_kernel M p) in
         Seen result.verdict (measurement_kernel_of result.kernel) no_measurement made }
 {
-    seen::measurement(PrecomputedActivePauliMeasurementKernel::from_pauli(pauli))
+    SeenMeasurementKernel::from(PrecomputedActivePauliMeasurementKernel::from_pauli(pauli))
 }
 
-pub fn naribhush_with_pivot(pauli: ActivePauli, pivot: usize) -> SeenMeasurementKernel
+#[unsafe(no_mangle)]
+pub extern "C" fn naribhush_with_pivot(pauli: ActivePauli, pivot: usize) -> SeenMeasurementKernel
     ensures { let M = active_of pauli in
         let made = answered (measurement_row M pivot false) (measurement_kernel M pivot) in
         Seen result.verdict (measurement_kernel_of result.kernel) no_measurement made }
 {
-    seen::measurement(PrecomputedActivePauliMeasurementKernel::with_pivot(pauli, pivot))
+    SeenMeasurementKernel::from(PrecomputedActivePauliMeasurementKernel::with_pivot(pauli, pivot))
 }
 
 // The sign is 0 or 1; over 1 it is refused by 14.
-pub fn naribhush_rotate(
+#[unsafe(no_mangle)]
+pub extern "C" fn naribhush_rotate(
     re: &mut [f64],
     im: &mut [f64],
     pauli: ActivePauli,
@@ -143,24 +160,27 @@ pub fn naribhush_rotate(
         let did = by_row row finished (steps.rotation (active_of pauli) sign c s S) S in
         (result ≡ verdict_of did.answer) × (state_of re.new im.new ≡ did.lent) }
 {
-    let own = own::rotation_row(re, im, pauli, c, s);
-    let row = rows::first(own, verdicts::flag_row(sign));
-    if row != 0 {
-        return verdicts::refused(row);
-    }
-    seen::step(rotation::rotate_contiguous_active(re, im, pauli, sign == 1, c, s))
+    Verdict::from(flagged::rotate(re, im, pauli, sign, c, s))
 }
 
-pub fn naribhush_promote(re: &mut [f64], im: &mut [f64], nqubits: usize, c: f64, q: f64) -> Verdict
+#[unsafe(no_mangle)]
+pub extern "C" fn naribhush_promote(
+    re: &mut [f64],
+    im: &mut [f64],
+    nqubits: usize,
+    c: f64,
+    q: f64,
+) -> Verdict
     ensures { let S = state_of re.old im.old in
         let did = promoting nqubits c q S in
         (result ≡ verdict_of did.answer) × (state_of re.new im.new ≡ did.lent) }
 {
-    seen::step(promotion::promote_contiguous_active(re, im, nqubits, c, q))
+    Verdict::from(promotion::promote_contiguous_active(re, im, nqubits, c, q))
 }
 
 // The branch is 0 or 1; over 1 it is refused by 14.
-pub fn naribhush_probability(
+#[unsafe(no_mangle)]
+pub extern "C" fn naribhush_probability(
     re: &[f64],
     im: &[f64],
     pauli: ActivePauli,
@@ -171,16 +191,12 @@ pub fn naribhush_probability(
         let row = first (probability_row (active_of pauli) pivot S) (flag_row branch) in
         Seen result.verdict result.probability no_float (answered row (steps.probability (active_of pauli) pivot branch S)) }
 {
-    let own = own::probability_row(re, im, pauli, pivot);
-    let row = rows::first(own, verdicts::flag_row(branch));
-    if row != 0 {
-        return seen::probability(ProbabilityAnswer::Refused(row));
-    }
-    seen::probability(measurement::probability_contiguous(re, im, pauli, pivot, branch == 1))
+    SeenProbability::from(flagged::probability(re, im, pauli, pivot, branch))
 }
 
 // The branch is 0 or 1; over 1 it is refused by 14.
-pub fn naribhush_project(
+#[unsafe(no_mangle)]
+pub extern "C" fn naribhush_project(
     re: &mut [f64],
     im: &mut [f64],
     scratch_re: &mut [f64],
@@ -196,27 +212,16 @@ pub fn naribhush_project(
         let did = by_row row finished (projected_memory M pivot branch invnorm m) m in
         (result ≡ verdict_of did.answer) × (memory_of re.new im.new scratch_re.new scratch_im.new ≡ did.lent) }
 {
-    let own = own::projection_row(re, im, scratch_re, scratch_im, pauli, pivot, invnorm);
-    let row = rows::first(own, verdicts::flag_row(branch));
-    if row != 0 {
-        return verdicts::refused(row);
-    }
-    seen::step(measurement::project_contiguous(
-        re,
-        im,
-        scratch_re,
-        scratch_im,
-        pauli,
-        pivot,
-        branch == 1,
-        invnorm,
+    Verdict::from(flagged::project(
+        re, im, scratch_re, scratch_im, pauli, pivot, branch, invnorm,
     ))
 }
 
-pub fn naribhush_correct(re: &mut [f64], im: &mut [f64], pauli: ActivePauli) -> Verdict
+#[unsafe(no_mangle)]
+pub extern "C" fn naribhush_correct(re: &mut [f64], im: &mut [f64], pauli: ActivePauli) -> Verdict
     ensures { let S = state_of re.old im.old in
         let did = correcting (active_of pauli) S in
         (result ≡ verdict_of did.answer) × (state_of re.new im.new ≡ did.lent) }
 {
-    seen::step(correction::correct_contiguous_active(re, im, pauli))
+    Verdict::from(correction::correct_contiguous_active(re, im, pauli))
 }

@@ -79,7 +79,7 @@ pub(crate) fn made<R: fmt::Display + Drop>(answer: Result<PauliString, R>) {
     pauli(beside);
 }
 
-pub(crate) fn bit<R: fmt::Display + Drop>(bit: Result<bool, R>) {
+pub fn bit<R: fmt::Display + Drop>(bit: Result<bool, R>) {
     answer(bit, |bit| number(u64::from(bit)));
 }
 

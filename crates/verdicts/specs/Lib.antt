@@ -1,2 +1,3 @@
 pub mod Verdict
 pub mod Flag
+pub mod Nothing

@@ -1,6 +1,5 @@
 use Rattle.verdicts.specs.Verdict.{seen_as}
-use borrow.Author.Rules.{rules}
 use Rattle.kernel_exports.proofs.naribhush_action.Goals as goal
 
 pub returns : goal.returns
-returns c = seen_as c.action.ensures c.new.ensures
+returns c = seen_as c.from.ensures c.new.ensures

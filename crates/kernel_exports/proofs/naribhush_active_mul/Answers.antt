@@ -1,6 +1,5 @@
-use Rattle.verdicts.specs.Verdict.{seen_as}
-use borrow.Author.Rules.{rules}
+use Rattle.verdicts.proofs.Seen.{row_seen}
 use Rattle.kernel_exports.proofs.naribhush_active_mul.Goals as goal
 
 pub returns : goal.returns
-returns c = seen_as c.pauli.ensures c.mul.ensures
+returns c = row_seen c.from.ensures c.mul.ensures

@@ -1,6 +1,5 @@
 use Rattle.verdicts.specs.Verdict.{seen_as}
-use borrow.Author.Rules.{rules}
 use Rattle.kernel_exports.proofs.naribhush_from_pauli.Goals as goal
 
 pub returns : goal.returns
-returns c = seen_as c.measurement.ensures c.from_pauli.ensures
+returns c = seen_as c.from.ensures c.from_pauli.ensures

@@ -1,11 +1,13 @@
-use mathlib.Core.Path.{ap, ap₂, ◌∙◌}
-use Rattle.answers.specs.Row.{first}
+use Rattle.std.proofs.Common.{ap, sym, ◌∙◌}
+use Rattle.answers.specs.Row.{first_none}
 use Rattle.amplitudelaws.specs.Rows.{probability_row, room_row}
-use borrow.Author.Rules.{rules}
+use Rattle.refusals.proofs.Asked.{asked_first}
 use Rattle.kernel_exports.proofs.own.probability_row.Goals as goal
+
+pub returns-in_err-measurement_row : goal.returns-in_err-measurement_row
+unfolding probability_row
+returns-in_err-measurement_row c = asked_first c.from_residual.result _ _ _ c.from_residual.ensures.1 c.in_err-measurement_row.ensures
 
 pub returns : goal.returns
 unfolding probability_row
-returns c =
-    let thirteen = c.room_row-room.ensures ∙ ap room_row c.has_room.ensures in
-    c.first.ensures ∙ ap₂ first c.measurement_row.ensures thirteen
+returns c = c.room_row.ensures ∙ ap room_row c.has_room.ensures ∙ sym (first_none _ _ (sym c.in_ok-measurement_row.ensures))

@@ -1,0 +1,7 @@
+use Rattle.std.specs.Prelude.{refl}
+use Rattle.kernels.specs.Kernel.{measurement_kernel_of}
+use Rattle.verdicts.proofs.Seen.{meant, row_seen}
+use Rattle.kernel_exports.proofs.seen.SeenMeasurementKernelFromResultPrecomputedActivePauliMeasurementKernelRow.from.Goals as goal
+
+pub returns : goal.returns
+returns c = rw (← c.no_measurement.ensures) (row_seen (meant c.verdict_and_value.ensures measurement_kernel_of) refl)

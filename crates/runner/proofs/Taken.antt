@@ -5,7 +5,12 @@ use Prim.Native.Nat.{ℕ, suc, ◌-◌, ◌^◌}
 use lib.Dec.{leb, ltb, eqb}
 use lib.Ieee.{Float}
 use lib.Ieee.Scale.{finite}
-use Rattle.answers.specs.Row.{row, first, left, first_passed, first_none, left_none}
+use Rattle.std.specs.Prelude.{Result, Ok, Err}
+use Rattle.std.specs.Result.{IsOk}
+use Rattle.answers.specs.Outcome.{finished}
+use Rattle.answers.specs.Row.{row, first, answered, left, first_passed, first_none, answered_none, left_none, refused_accepted}
+use Rattle.refusals.specs.declared.Row.{Row}
+use Rattle.rows.specs.Step.{step_answer_of}
 use Rattle.paulilaws.specs.Pauli.{Pauli}
 use Rattle.amplitudelaws.specs.Binary.{binary}
 use Rattle.amplitudelaws.specs.Calls.{projected_memory}
@@ -66,7 +71,12 @@ module _ {n : ℕ} {m : Memory} where
       with_room (first (hermitian_row widest_kernel P) (unit_row h h)) (room P.n m.state)
       (first_none (hermitian_row widest_kernel P) _ r.row ∙ root_unit) (rw r.placed r.before)
 
--- What a kernel's call leaves is what the step leaves: t is the step, o what the call left.
+-- a call that no row refuses is done
+done : {A : Type 0} (x : Result A Row) (r : ℕ) → r ≡ 0 → step_answer_of x ≡ answered r finished → IsOk x
+done (Ok a) r none h = refl
+done (Err e) r none h = absurd (refused_accepted (h ∙ answered_none r finished none))
+
+-- What a kernel's call answers and leaves is what the step leaves: t is the step, x the call's result, o what it left.
 module _ (n : ℕ) (t : Step Float) (m : Memory) (ready : StepReady n t m) where
   ready_as : {u : Step Float} → t ≡ u → StepReady n u m
   ready_as e = subst (λ (t : Step Float). StepReady n t m) e ready
@@ -82,11 +92,17 @@ module _ (n : ℕ) (t : Step Float) (m : Memory) (ready : StepReady n t m) where
       let done = h ∙ left_none r _ _ none in
       taken r e none (ap (λ (S : State). record { state = S; scratch = m.scratch }) done ∙ is ∙ sym (left_none r _ _ none))
 
+  pub rotation_done : (P : Pauli) (sign : ℕ) (c s : Float) {A : Type 0} (x : Result A Row) → t ≡ rotation P sign c s → step_answer_of x ≡ answered (rotation_row P c s m.state) finished → IsOk x
+  rotation_done P sign c s x e h = done x _ (rotation_row_lem P sign c s (ready_as e)) h
+
   pub rotation_taken : (P : Pauli) (sign : ℕ) (c s : Float) {S : State} → t ≡ rotation P sign c s
       → S ≡ left (rotation_row P c s m.state) (leaves.rotation P sign c s m.state) m.state
       → record { state = S; scratch = m.scratch } ≡ stepped n t m
   unfolding stepped
   rotation_taken P sign c s e h = taken_alone _ e (rotation_row_lem P sign c s (ready_as e)) h refl
+
+  pub promotion_done : (c q : Float) {A : Type 0} (x : Result A Row) → t ≡ promotion c q → step_answer_of x ≡ answered (promotion_row n c q m.state) finished → IsOk x
+  promotion_done c q x e h = done x _ (promotion_row_lem c q (ready_as e)) h
 
   pub promotion_taken : (c q : Float) {S : State} → t ≡ promotion c q
       → S ≡ left (promotion_row n c q m.state) (leaves.promotion n c q m.state) m.state
@@ -94,16 +110,25 @@ module _ (n : ℕ) (t : Step Float) (m : Memory) (ready : StepReady n t m) where
   unfolding stepped
   promotion_taken c q e h = taken_alone _ e (promotion_row_lem c q (ready_as e)) h refl
 
+  pub projection_done : (M : Pauli) (p v : ℕ) (invnorm : Float) {A : Type 0} (x : Result A Row) → t ≡ projection M p v invnorm → step_answer_of x ≡ answered (projection_row M p invnorm m.state m.scratch) finished → IsOk x
+  projection_done M p v invnorm x e h = done x _ (projection_row_lem M p v invnorm (ready_as e)) h
+
   pub projection_taken : (M : Pauli) (p v : ℕ) (invnorm : Float) {o : Memory} → t ≡ projection M p v invnorm
       → o ≡ left (projection_row M p invnorm m.state m.scratch) (projected_memory M p v invnorm m) m → o ≡ stepped n t m
   unfolding stepped
   projection_taken M p v invnorm e h = taken _ e (projection_row_lem M p v invnorm (ready_as e)) h
+
+  pub correction_done : (P : Pauli) {A : Type 0} (x : Result A Row) → t ≡ correction P → step_answer_of x ≡ answered (correction_row P m.state) finished → IsOk x
+  correction_done P x e h = done x _ (correction_row_lem P (ready_as e)) h
 
   pub correction_taken : (P : Pauli) {S : State} → t ≡ correction P
       → S ≡ left (correction_row P m.state) (leaves.correction P m.state) m.state
       → record { state = S; scratch = m.scratch } ≡ stepped n t m
   unfolding stepped
   correction_taken P e h = taken_alone _ e (correction_row_lem P (ready_as e)) h refl
+
+  pub quarter_turn_done : (P : Pauli) {A : Type 0} (x : Result A Row) → t ≡ quarter_turn P → step_answer_of x ≡ answered (rotation_row P binary.h binary.h m.state) finished → IsOk x
+  quarter_turn_done P x e h = done x _ (quarter_turn_row P (ready_as e)) h
 
   pub quarter_turn_taken : (P : Pauli) {S : State} → t ≡ quarter_turn P
       → S ≡ left (rotation_row P binary.h binary.h m.state) (leaves.rotation P 0 binary.h binary.h m.state) m.state

@@ -1,12 +1,12 @@
 -- What the loop over a run's steps keeps: the steps that are left do to the memory as it is what the whole run does to the memory as it was.
 use mathlib.Core.Path.{◌≡◌, sym, ap, ap₂, ◌∙◌, subst}
-use mathlib.Core.List.{List, [], ◌∷◌}
+use mathlib.Core.List.{List, []}
 use Prim.Native.Nat.{ℕ, ◌<◌, ◌-◌}
 use native.Mathlib.Omega.{arith}
 use lib.Ieee.{Float}
 use lib.ListN.{length}
-use types.Run.{OneOf}
-use denote.Enum.Declared.{tag_of}
+use Rattle.std.specs.Prelude.{Result, Ok}
+use Rattle.refusals.specs.declared.RowAt.{RowAt}
 use Rattle.answers.specs.Answer.Answer.{accepted}
 use Rattle.amplitudelaws.specs.Step.{Step}
 use Rattle.framelaws.specs.Caller.{Caller}
@@ -22,8 +22,9 @@ use Rattle.runlaws.specs.Walk.{Left, left_outset, accepted_step}
 use Rattle.runlaws.specs.Fields.{step_read_lem, size_ge}
 use Rattle.runlaws.specs.WholeRun.{run_allowed}
 use Rattle.steps.proofs.Ended.{none_left}
-use Rattle.steps.specs.contracts.Read.{the_type}
-use Rattle.steps.specs.declared.Read as declared
+use Rattle.steps.specs.declared.Cursor as declared
+use Rattle.steps.specs.declared.Read.{Read}
+use Rattle.steps.specs.declared.Read.TheVariants as read
 use Rattle.steps.specs.Meaning.{read_of}
 use Rattle.runner.specs.Ready.{StepReady, RunReady}
 use Rattle.runner.proofs.Rooms.{Rooms, rooms_passed, rooms_before, rooms_behind, rooms_scratch, rooms_rest}
@@ -94,5 +95,6 @@ module _ {caller : Caller} {s : List ℕ} {m₀ : Memory} where
     all_taken e = ap (λ (ts : List (Step Float)). ran c.width ts m) (sym e) ∙ u.same
 
     -- what is no step is the end: a run that was accepted has no refusal
-    pub underway_end : (r : declared.Read) → read_of r ≡ read_at caller s c → OneOf (1 ∷ 2 ∷ []) (tag_of the_type r) → m ≡ (running caller s m₀).lent
+    pub underway_end : (r : Result Read RowAt) → read_of r ≡ read_at caller s c → ((t : _) (d : declared.Cursor) → r ≡ Ok (read.Step t d) → ⊥)
+        → m ≡ (running caller s m₀).lent
     underway_end r e k = all_taken (none_left u.left r e k)

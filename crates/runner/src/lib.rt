@@ -4,113 +4,56 @@
 
 ghost use Rattle.amplitudelaws.specs.Memory.{memory_of};
 ghost use Rattle.std.specs.Prelude.{◌≡◌, ◌&&◌};
-ghost use Rattle.answers.specs.Answer.Answer.{accepted};
 ghost use Rattle.amplitudelaws.specs.Rows.{room_row};
 ghost use Rattle.amplitudelaws.specs.State.{room_for, room};
-ghost use Rattle.framelaws.specs.Caller.{service, emulator};
 ghost use Rattle.framelaws.specs.Memory.{stepped};
-ghost use Rattle.runlaws.specs.Calls.{CheckedRun, checking_with_start, running};
-ghost use Rattle.callers.specs.Meaning.{caller_of};
+ghost use Rattle.runlaws.specs.Calls.{running};
+ghost use Rattle.refusals.specs.Refusal.{row_of, refusal_answer_of};
+ghost use Rattle.callers.specs.Meaning.{caller_of, limits_of};
 ghost use Rattle.steps.specs.Meaning.{step_of};
-ghost use Rattle.checker.specs.Meaning.{survey_fields_of};
-ghost use Rattle.runner.specs.Meaning.{run_answer_of};
+ghost use Rattle.runner.specs.Meaning.{finished_of};
 ghost use Rattle.runner.specs.Ready.{StepReady, RunReady};
 
-use callers::Caller;
-use checker::{Checked, Survey};
+use callers::{Caller, Limits};
+use refusals::{Refusal, Row};
 use steps::{Cursor, Read, Step};
 
-// The last width and the number of steps done; or the run's own refusal with its place, or 13.
+// The last width and the number of steps done.
 #[derive(Clone, Copy)]
-pub enum RunAnswer {
-    Finished { width: usize, steps: usize },
-    Refused(u8),
-    RefusedAt(u8, usize),
+pub struct Finished {
+    pub width: usize,
+    pub steps: usize,
 }
 
-// A run of the service.
+// A run of the caller's; or the run's own refusal with its place, or 13.
 pub fn run_contiguous(
     run: &[u8],
     re: &mut [f64],
     im: &mut [f64],
     scratch_re: &mut [f64],
     scratch_im: &mut [f64],
-) -> RunAnswer
-    ensures { let m = memory_of re.old im.old scratch_re.old scratch_im.old in
-        let did = running service run.now m in
-        (run_answer_of result ≡ did.answer) × (memory_of re.new im.new scratch_re.new scratch_im.new ≡ did.lent) }
-{
-    run_for(run, re, im, scratch_re, scratch_im, Caller::service())
-}
-
-// A run of the emulator.
-pub fn run_emulated(
-    run: &[u8],
-    re: &mut [f64],
-    im: &mut [f64],
-    scratch_re: &mut [f64],
-    scratch_im: &mut [f64],
-) -> RunAnswer
-    ensures { let m = memory_of re.old im.old scratch_re.old scratch_im.old in
-        let did = running emulator run.now m in
-        (run_answer_of result ≡ did.answer) × (memory_of re.new im.new scratch_re.new scratch_im.new ≡ did.lent) }
-{
-    run_for(run, re, im, scratch_re, scratch_im, Caller::Emulator)
-}
-
-fn run_for(
-    run: &[u8],
-    re: &mut [f64],
-    im: &mut [f64],
-    scratch_re: &mut [f64],
-    scratch_im: &mut [f64],
     caller: Caller,
-) -> RunAnswer
+) -> Result<Finished, Refusal>
     ensures { let m = memory_of re.old im.old scratch_re.old scratch_im.old in
         let did = running (caller_of caller) run.now m in
-        (run_answer_of result ≡ did.answer) × (memory_of re.new im.new scratch_re.new scratch_im.new ≡ did.lent) }
+        (refusal_answer_of finished_of result ≡ did.answer) × (memory_of re.new im.new scratch_re.new scratch_im.new ≡ did.lent) }
 {
-    match checker::check_with_start(run, caller) {
-        Checked::Refused(row, at) => RunAnswer::RefusedAt(row, at),
-        Checked::Run(start, survey) => run_checked(
-            run, re, im, scratch_re, scratch_im, caller, start, survey,
-        ),
-    }
-}
-
-// Row 13, then the steps.
-fn run_checked(
-    run: &[u8],
-    re: &mut [f64],
-    im: &mut [f64],
-    scratch_re: &mut [f64],
-    scratch_im: &mut [f64],
-    caller: Caller,
-    start: usize,
-    survey: Survey,
-) -> RunAnswer
-    requires { let checked : CheckedRun = record { start = start; survey = survey_fields_of survey } in
-        checking_with_start (caller_of caller) run.now ≡ accepted checked }
-    ensures { let m = memory_of re.old im.old scratch_re.old scratch_im.old in
-        let did = running (caller_of caller) run.now m in
-        (run_answer_of result ≡ did.answer) × (memory_of re.new im.new scratch_re.new scratch_im.new ≡ did.lent) }
-{
-    let row = memory_row(
+    let limits = caller.limits();
+    let checked = checker::check_with_start(run, limits)?;
+    let survey = checked.survey;
+    memory_row(
         re,
         im,
         scratch_re,
         scratch_im,
         survey.greatest,
         survey.scratch,
-    );
-    if row != 0 {
-        return RunAnswer::Refused(row);
-    }
-    run_steps(run, re, im, scratch_re, scratch_im, caller, start);
-    RunAnswer::Finished {
+    )?;
+    run_steps(run, re, im, scratch_re, scratch_im, limits, checked.start);
+    Ok(Finished {
         width: survey.width,
         steps: survey.steps,
-    }
+    })
 }
 
 // 13: the state's room for the greatest width, and the scratch's.
@@ -121,9 +64,9 @@ fn memory_row(
     scratch_im: &[f64],
     greatest: usize,
     scratch: usize,
-) -> u8
+) -> Result<(), Row>
     ensures { let m = memory_of re.now im.now scratch_re.now scratch_im.now in
-        result ≡ room_row (room greatest m.state && room_for scratch m.scratch) }
+        row_of result ≡ room_row (room greatest m.state && room_for scratch m.scratch) }
 {
     let states = rows::has_room(re, im, greatest);
     let mixtures = (scratch <= scratch_re.len()) & (scratch <= scratch_im.len());
@@ -138,22 +81,18 @@ fn run_steps(
     im: &mut [f64],
     scratch_re: &mut [f64],
     scratch_im: &mut [f64],
-    caller: Caller,
+    limits: Limits,
     width: usize,
 )
-    requires { RunReady (caller_of caller) run.now width (memory_of re.old im.old scratch_re.old scratch_im.old) }
+    requires { RunReady (limits_of limits) run.now width (memory_of re.old im.old scratch_re.old scratch_im.old) }
     ensures { let m = memory_of re.old im.old scratch_re.old scratch_im.old in
-        memory_of re.new im.new scratch_re.new scratch_im.new ≡ (running (caller_of caller) run.now m).lent }
+        memory_of re.new im.new scratch_re.new scratch_im.new ≡ (running (limits_of limits) run.now m).lent }
 {
     let mut cursor = Cursor {
         at: fields::START_BYTES,
         width,
     };
-    loop {
-        let got = reader::read(run, cursor, caller);
-        let Read::Step(step, next) = got else {
-            break;
-        };
+    while let Ok(Read::Step(step, next)) = reader::read(run, cursor, limits) {
         take_step(step, cursor.width, re, im, scratch_re, scratch_im);
         cursor = next;
     }
@@ -174,22 +113,23 @@ fn take_step(
 {
     match step {
         Step::Rotation(pauli, sign, c, s) => {
-            rotation::rotate_contiguous_active(re, im, pauli, sign, c, s);
+            rotation::rotate_contiguous_active(re, im, pauli, sign, c, s).unwrap();
         }
         Step::Promotion(c, q) => {
-            promotion::promote_contiguous_active(re, im, width, c, q);
+            promotion::promote_contiguous_active(re, im, width, c, q).unwrap();
         }
         Step::Projection(pauli, pivot, branch, invnorm) => {
             measurement::project_contiguous(
                 re, im, scratch_re, scratch_im, pauli, pivot, branch, invnorm,
-            );
+            )
+            .unwrap();
         }
         Step::Correction(pauli) => {
-            correction::correct_contiguous_active(re, im, pauli);
+            correction::correct_contiguous_active(re, im, pauli).unwrap();
         }
         Step::QuarterTurn(pauli) => {
             let h = f64::from_bits(complex::H_BITS);
-            rotation::rotate_contiguous_active(re, im, pauli, false, h, h);
+            rotation::rotate_contiguous_active(re, im, pauli, false, h, h).unwrap();
         }
     }
 }

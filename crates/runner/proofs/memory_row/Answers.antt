@@ -1,5 +1,4 @@
 use Rattle.amplitudelaws.specs.State.{room_for}
-use borrow.Author.Rules.{rules}
 use Rattle.runner.proofs.memory_row.Goals as goal
 
 pub returns : goal.returns

@@ -4,16 +4,24 @@
 
 mod moves;
 
-ghost use Rattle.std.specs.Prelude.{◌≡◌};
+ghost use Rattle.std.specs.Prelude.{◌≡◌, ◌≤◌, ◌<◌, ◌^◌};
 ghost use Rattle.activepauli.specs.Active.{active_of};
 ghost use Rattle.amplitudelaws.specs.Calls.{correcting};
-ghost use Rattle.amplitudelaws.specs.Rows.{correction_row};
+ghost use Rattle.amplitudelaws.specs.Rows.{widest_kernel, correction_row};
 ghost use Rattle.amplitudelaws.specs.State.{state_of};
 ghost use Rattle.refusals.specs.Refusal.{row_of};
 ghost use Rattle.rows.specs.Step.{step_answer_of};
 
 use activepauli::ActivePauli;
 use refusals::Row;
+
+// A Pauli that a pulse fires.
+#[derive(Clone, Copy)]
+struct Pulse {
+    pauli: ActivePauli,
+    ghost narrow: { pauli.nqubits ≤ widest_kernel },
+    ghost masked: { pauli.x < 2 ^ pauli.nqubits },
+}
 
 // Refused by 3, by 6 past 61 qubits and by 13 where a buffer is too short.
 pub fn correct_contiguous_active(
@@ -26,7 +34,8 @@ pub fn correct_contiguous_active(
         (step_answer_of result ≡ did.answer) × (state_of re.new im.new ≡ did.lent) }
 {
     correction_row(re, im, pauli)?;
-    moves::correct(re, im, pauli);
+    let pulse = Pulse { pauli };
+    pulse.correct(re, im);
     Ok(())
 }
 

@@ -10,15 +10,15 @@ use Rattle.amplitudelaws.specs.Correction.{corrected}
 use Rattle.amplitudelaws.specs.State.{state_of, point}
 use Rattle.amplitudelaws.specs.Sweeping.{one_ahead, one_more}
 use Rattle.amplitudelaws.proofs.Sweeping.{one_all}
-use Rattle.correction.proofs.moves.correct_alone.Goals as goal
+use Rattle.correction.proofs.Pulse.correct_alone.Goals as goal
 
 pub loop-b-preserved : goal.loop-b-preserved
 unfolding corrected
 loop-b-preserved c =
-    let P = c.args.pauli in
+    let P = c.args.self.pauli in
     let inv = c.loop-b.invariant in
     let b = c.loop-b.b in
-    let same : bit_xor b P.x ≡ b = ap (bit_xor b) c.requires.1 ∙ xor_zero_r b in
+    let same : bit_xor b P.x ≡ b = ap (bit_xor b) c.requires.0 ∙ xor_zero_r b in
     let F : ℕ → Point = point (state_of c.args.re.now c.args.im.now) in (
       inv.0,
       one_more inv.1 _ _ c.write.ensures (omega arith)

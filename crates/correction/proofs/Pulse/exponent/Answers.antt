@@ -5,7 +5,7 @@ use native.Mathlib.Omega.{arith}
 use lib.Dec.{eqb}
 use Rattle.bitlaws.specs.Parity.{overlap}
 use Rattle.bitlaws.proofs.Parity.{overlap_lt}
-use Rattle.correction.proofs.moves.exponent.Goals as goal
+use Rattle.correction.proofs.Pulse.exponent.Goals as goal
 
 odd_turn : (k u : ℕ) → u < 2 → eqb u 1 ≡ true → (k % 4 + 2) % 4 ≡ (k + 2 * u) % 4
 odd_turn k zero h e = absurd (let z : ◌≡◌ {A = ℕ} 0 1 = cc in omega arith)
@@ -21,10 +21,12 @@ pub returns-then-is_odd_popcount : goal.returns-then-is_odd_popcount
 unfolding overlap
 returns-then-is_odd_popcount c =
     let a = c.args in
-    odd_turn a.phase (overlap a.basis a.zmask) (overlap_lt a.basis a.zmask) (sym c.is_odd_popcount.ensures ∙ c.if-is_odd_popcount.true)
+    let P = a.self.pauli in
+    odd_turn P.phase (overlap a.basis P.z) (overlap_lt a.basis P.z) (sym c.is_odd_popcount.ensures ∙ c.if-is_odd_popcount.true)
 
-pub returns : goal.returns
+pub returns-else-is_odd_popcount : goal.returns-else-is_odd_popcount
 unfolding overlap
-returns c =
+returns-else-is_odd_popcount c =
     let a = c.args in
-    even_turn a.phase (overlap a.basis a.zmask) (overlap_lt a.basis a.zmask) (sym c.is_odd_popcount.ensures ∙ c.if-is_odd_popcount.false)
+    let P = a.self.pauli in
+    even_turn P.phase (overlap a.basis P.z) (overlap_lt a.basis P.z) (sym c.is_odd_popcount.ensures ∙ c.if-is_odd_popcount.false)

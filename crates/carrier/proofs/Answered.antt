@@ -2,8 +2,7 @@
 use mathlib.Core.Path.{◌≡◌, refl, sym, ap, ◌∙◌}
 use mathlib.Core.List.{List, ◌++◌}
 use Prim.Native.Nat.{ℕ}
-use lib.ListN.{length, take, drop}
-use lib.Seq.{take-length}
+use lib.ListN.{length, drop}
 use Rattle.answers.specs.Answer.{Answer}
 use Rattle.answers.specs.Answer.Answer.{accepted, refused, refused_at}
 use Rattle.answers.specs.Row.{refusing, passing}
@@ -48,16 +47,13 @@ module _ (caller : Caller) (s : List ℕ) (Q : Pauli) (out : List ℕ) where
         let known = carrying_passed Q width (length s) (length out) (sym is ∙ none) in
         record { read = checked_read caller s checked; admitted = known.0; width = known.1 ∙ checked_start caller s checked }
 
-    module _ (none : r ≡ 0) {copy : List ℕ} (copied : copy ≡ take (length s) s ++ drop (length s) out) where
-      whole : copy ≡ s ++ drop (length s) out
-      whole = copied ∙ rw (take-length s)
-
+    module _ (none : r ≡ 0) {copy : List ℕ} (copied : copy ≡ s ++ drop (length s) out) where
       pub done : (Q' : Pauli) (out' : List ℕ) → Q' ≡ end_pauli Q (run_in caller s).steps → out' ≡ flagged 4 (carried_steps Q (run_in caller s).steps) copy
           → Carries (accepted Q') out'
       unfolding carrying on_run
       done Q' out' ends writes =
           let R = run_in caller s in
           let written : out' ≡ carried_run Q R s ++ drop (length s) out
-          = writes ∙ ap (flagged 4 (carried_steps Q R.steps)) whole ∙ carried_append caller s (drop (length s) out) Q R (checked_read caller s checked) in
+          = writes ∙ ap (flagged 4 (carried_steps Q R.steps)) copied ∙ carried_append caller s (drop (length s) out) Q R (checked_read caller s checked) in
           rw (checked_read caller s checked, ends)
           (passing (carrying_row Q R.width (length s) (length out)) (end_pauli Q R.steps) (carried_run Q R s ++ drop (length s) out) out out' (sym row_is ∙ none) written)

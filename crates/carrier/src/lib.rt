@@ -5,78 +5,48 @@
 
 ghost use Rattle.std.specs.Prelude.{◌≡◌};
 ghost use Rattle.activepauli.specs.Active.{active_of};
-ghost use Rattle.framelaws.specs.Caller.{service, emulator};
+ghost use Rattle.callers.specs.Meaning.{caller_of, limits_of};
 ghost use Rattle.framelaws.specs.Carrying.{carried_steps, end_pauli};
+ghost use Rattle.refusals.specs.Refusal.{refusal_answer_of, row_of};
 ghost use Rattle.runlaws.specs.Flags.{flagged};
 ghost use Rattle.runlaws.specs.Calls.{carrying, carrying_row};
 ghost use Rattle.runlaws.specs.OnStart.{run_in, OnStart};
-ghost use Rattle.callers.specs.Meaning.{caller_of};
-ghost use Rattle.carrier.specs.Meaning.{carry_answer_of};
 
 use activepauli::ActivePauli;
-use callers::Caller;
-use checker::Checked;
-use passing::PassAnswer;
+use callers::{Caller, Limits};
+use refusals::{Refusal, Row, refuse_if};
 use steps::{Cursor, Read};
 
-// The end Pauli; or the run's own refusal with its place, or 3, 4 or 16.
-#[derive(Clone, Copy)]
-pub enum CarryAnswer {
-    Carried(ActivePauli),
-    Refused(u8),
-    RefusedAt(u8, usize),
-}
-
-// A run of the service. The output holds the run with its new signs and branches, and what it held past the
-// run's length; on a refusal it stays as it was.
-pub fn carry_run(run: &[u8], pauli: ActivePauli, out: &mut [u8]) -> CarryAnswer
-    ensures { let did = carrying service run.now (active_of pauli) out.old in
-        (carry_answer_of result ≡ did.answer) × (out.new ≡ did.lent) }
-{
-    carry_for(run, pauli, out, Caller::service())
-}
-
-// The same of the emulator.
-pub fn carry_emulated(run: &[u8], pauli: ActivePauli, out: &mut [u8]) -> CarryAnswer
-    ensures { let did = carrying emulator run.now (active_of pauli) out.old in
-        (carry_answer_of result ≡ did.answer) × (out.new ≡ did.lent) }
-{
-    carry_for(run, pauli, out, Caller::Emulator)
-}
-
-fn carry_for(run: &[u8], pauli: ActivePauli, out: &mut [u8], caller: Caller) -> CarryAnswer
+// The end Pauli; or the run's own refusal with its place, or 3, 4 or 16. The output holds the run with its new
+// signs and branches, and what it held past the run's length; on a refusal it stays as it was.
+pub fn carry_run(
+    run: &[u8],
+    pauli: ActivePauli,
+    out: &mut [u8],
+    caller: Caller,
+) -> Result<ActivePauli, Refusal>
     ensures { let did = carrying (caller_of caller) run.now (active_of pauli) out.old in
-        (carry_answer_of result ≡ did.answer) × (out.new ≡ did.lent) }
+        (refusal_answer_of active_of result ≡ did.answer) × (out.new ≡ did.lent) }
 {
-    match checker::check_with_start(run, caller) {
-        Checked::Refused(row, at) => CarryAnswer::RefusedAt(row, at),
-        Checked::Run(width, _) => {
-            let row = carrying_row(pauli, width, run.len(), out.len());
-            if row != 0 {
-                return CarryAnswer::Refused(row);
-            }
-            octets::copy(run, out);
-            let last = carry_steps(run, pauli, out, caller);
-            CarryAnswer::Carried(last)
-        }
-    }
+    let limits = caller.limits();
+    let checked = checker::check_with_start(run, limits)?;
+    carrying_row(pauli, checked.start, run.len(), out.len())?;
+    out[..run.len()].copy_from_slice(run);
+    Ok(carry_steps(run, pauli, out, limits))
 }
 
 // 3, 4 and 16: `size` is the run's, `room` the output's.
-fn carrying_row(pauli: ActivePauli, width: usize, size: usize, room: usize) -> u8
-    ensures { result ≡ carrying_row (active_of pauli) width size room }
+fn carrying_row(pauli: ActivePauli, width: usize, size: usize, room: usize) -> Result<(), Row>
+    ensures { row_of result ≡ carrying_row (active_of pauli) width size room }
 {
-    rows::first(
-        passing::placed_row(pauli, width),
-        rows::row(room < size, 16),
-    )
+    passing::placed_row(pauli, width)?;
+    refuse_if(room < size, Row::OutputTooShort)
 }
 
-// Past each step of a run that was checked, of which `out` holds a copy: the Pauli at the end. What is no
-// step is the run's end.
-fn carry_steps(run: &[u8], pauli: ActivePauli, out: &mut [u8], caller: Caller) -> ActivePauli
-    requires { OnStart (caller_of caller) run.now (active_of pauli) }
-    ensures { let Q = active_of pauli in let steps = (run_in (caller_of caller) run.now).steps in
+// Past each step of a run that was checked, of which `out` holds a copy: the Pauli at the end.
+fn carry_steps(run: &[u8], pauli: ActivePauli, out: &mut [u8], limits: Limits) -> ActivePauli
+    requires { OnStart (limits_of limits) run.now (active_of pauli) }
+    ensures { let Q = active_of pauli in let steps = (run_in (limits_of limits) run.now).steps in
         (active_of result ≡ end_pauli Q steps) × (out.new ≡ flagged 4 (carried_steps Q steps) out.old) }
 {
     let mut cursor = Cursor {
@@ -84,17 +54,11 @@ fn carry_steps(run: &[u8], pauli: ActivePauli, out: &mut [u8], caller: Caller) -
         width: pauli.nqubits,
     };
     let mut held = pauli;
-    loop {
-        let got = reader::read(run, cursor, caller);
-        let Read::Step(step, next) = got else {
-            break;
-        };
-        let PassAnswer::Past(carried, behind) = passing::past(held, step) else {
-            // Never: a Pauli on the state's qubits is taken past any step that was checked.
-            return held;
-        };
-        flags::write_flag(out, cursor.at, carried);
-        held = behind;
+    // What is no step is the run's end, and no step that was checked refuses the Pauli.
+    while let Ok(Read::Step(step, next)) = reader::read(run, cursor, limits) {
+        let passage = passing::past(held, step).unwrap();
+        flags::write_flag(out, cursor.at, passage.step);
+        held = passage.pauli;
         cursor = next;
     }
     held

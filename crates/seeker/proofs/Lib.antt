@@ -1,5 +1,4 @@
 pub mod OneWord
-pub mod Words
-pub mod Masks
 pub mod Written
+pub mod Masks
 pub mod Answered

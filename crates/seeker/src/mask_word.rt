@@ -7,6 +7,7 @@ ghost use Rattle.paulilaws.specs.MaskWord as masks;
 use activepauli::ActivePauli;
 
 // The masks on the lowest `width` qubits.
+#[tactic(auto, using(crate::proofs::OneWord::shifted, crate::proofs::OneWord::word_small), unfolding(paulilaws::specs::MaskWord::mask_word))]
 pub(crate) fn mask_word(pauli: ActivePauli, width: usize) -> u64
     requires { width ≤ widest_run }
     ensures { result ≡ masks.mask_word width (active_of pauli) }
@@ -16,6 +17,7 @@ pub(crate) fn mask_word(pauli: ActivePauli, width: usize) -> u64
 }
 
 // The Pauli on `width` qubits with these masks.
+#[tactic(auto, using(crate::proofs::OneWord::shifted), unfolding(paulilaws::specs::MaskWord::with_masks))]
 pub(crate) fn with_masks(width: usize, phase: u8, word: u64) -> ActivePauli
     requires { width ≤ widest_run }
     ensures { active_of result ≡ masks.with_masks width phase word }

@@ -65,6 +65,7 @@ impl Search<'_> {
     }
 
     // The masks of a start, and below them those at the end.
+    #[tactic(auto, using(crate::proofs::OneWord::shifted, crate::proofs::OneWord::above_small))]
     fn with_image(&self, masks: u64) -> u64
         requires { masks < 2 ^ 24 }
         ensures { result ≡ frame.with_image self.now.width (steps_of self.now) masks }
@@ -76,6 +77,7 @@ impl Search<'_> {
 
     // By what elimination left: 25 where a digit of the end's masks is left; else a start's masks stand above these
     // digits, and its phase is the end's less the one that these masks end with.
+    #[tactic(auto, using(crate::proofs::OneWord::shifted))]
     pub(crate) fn start_for(&self, end: ActivePauli, left: u64) -> Result<ActivePauli, Row>
         requires { left ≡ frame.remainder self.now.width (steps_of self.now) (active_of end) }
         ensures { let steps = steps_of self.now in let E = active_of end in

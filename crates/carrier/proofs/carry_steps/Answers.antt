@@ -1,63 +1,43 @@
--- the walk behind the step that was read
--- the step that is left behind, and the Pauli then
-use mathlib.Core.Path.{◌≡◌, refl, sym, ap, ◌∙◌}
-use Prim.Native.Nat.{◌-◌}
-use lib.ListN.{length}
+-- The walk behind the step that was read, and what no step is: the end.
+use Rattle.std.proofs.Common.{sym}
 use Rattle.activepauli.specs.Active.{active_of}
-use Rattle.framelaws.specs.Carrying.{carried_step, passed, carried_steps, end_pauli}
-use Rattle.passing.specs.Answer.{pass_answer_of}
-use Rattle.passing.specs.Accepted.{past_is, past_never}
-use Rattle.runlaws.specs.Flags.{flagged}
-use Rattle.runlaws.proofs.Flagged.{flag_length}
+use Rattle.callers.specs.Meaning.{limits_of}
+use Rattle.passing.specs.Accepted.{past_unrefused, past_is}
 use Rattle.runlaws.specs.Going.{Gone, going_step}
-use Rattle.runlaws.specs.OnStart.{run_in}
-use Rattle.callers.specs.Meaning.{caller_of}
 use Rattle.steps.proofs.Ended.{none_left}
-use Rattle.steps.specs.Meaning.{cursor_of, step_of, read_of}
-use Rattle.carrier.proofs.Turn.{Carrying, outset, turn, all_written}
-use borrow.Enum.Refused.{opened}
-use borrow.Author.Rules.{rules}
+use Rattle.steps.specs.Meaning.{cursor_of, step_of}
+use Rattle.carrier.proofs.Turn.{outset, turn, all_written}
 use Rattle.carrier.proofs.carry_steps.Goals as goal
-use Rattle.carrier.proofs.carry_steps.Goals.{In-Past, In-Step}
+use Rattle.carrier.proofs.carry_steps.Goals.{In-Ok-Step}
 
 pub loop-step-init : goal.loop-step-init
-loop-step-init c = (outset _ _ _ _ c.requires, refl)
+loop-step-init c = outset _ _ _ _ c.requires
 
-gone : (c : In-Step) → let a = c.args in
-    let w = c.loop-step.invariant.0 in
-    let t = step_of c.in-Step.step in
-    let next = cursor_of c.in-Step.next in
-    Gone (caller_of a.caller) a.run.now (cursor_of c.loop-step.cursor) (active_of c.loop-step.held) w.steps t next
+gone : (c : In-Ok-Step) → let a = c.args in
+    Gone (limits_of a.limits) a.run.now (cursor_of c.loop-step.cursor) (active_of c.loop-step.held) c.loop-step.invariant.steps
+    (step_of c.in-Ok-Step.step) (cursor_of c.in-Ok-Step.next)
 gone c =
-    going_step c.loop-step.invariant.0.passing.going _ _ (sym c.read-got.ensures ∙ ap read_of c.in-Step.is)
+    going_step c.loop-step.invariant.passing.going _ _ (sym (rw c.in-Ok-Step.field-0-is at c.in-Ok-Step.ensures))
 
-pub shape_of-out-in_default-past : goal.shape_of-out-in_default-past
-shape_of-out-in_default-past c = c.loop-step.invariant.1
-
-pub returns-in_default-past : goal.returns-in_default-past
-returns-in_default-past c =
-    absurd (past_never _ _ (gone (goal.at.returns-in_default-past c).In-Step).row _ (ap pass_answer_of (sym c.in_default-past.is) ∙ c.past.ensures))
-
-taken : (c : In-Past) → let Q = active_of c.loop-step.held in
-    let t = step_of c.in-Step.step in
-    (step_of c.in-Past.carried ≡ carried_step Q t) × (active_of c.in-Past.behind ≡ passed Q t)
-taken c =
-    past_is _ _ (going_step c.loop-step.invariant.0.passing.going _ _ (sym c.read-got.ensures ∙ ap read_of c.in-Step.is)).row c.in-Past.carried c.in-Past.behind (ap pass_answer_of (sym c.in-Past.is) ∙ c.past.ensures)
+pub unwrap-passage-requires : goal.unwrap-passage-requires
+unwrap-passage-requires c =
+    past_unrefused _ _ (gone (goal.at.unwrap-passage-requires c).In-Ok-Step).row c.past.result c.past.ensures
 
 pub loop-step-smaller : goal.loop-step-smaller
-loop-step-smaller c = (gone (goal.at.loop-step-smaller c).In-Step).less
+loop-step-smaller c = (gone (goal.at.loop-step-smaller c).In-Ok-Step).less
 
 pub loop-step-preserved : goal.loop-step-preserved
 loop-step-preserved c =
-    let inv = c.loop-step.invariant in (
-      turn inv.0 (gone (goal.at.loop-step-preserved c).In-Step) _ _ _ (taken (goal.at.loop-step-preserved c).In-Past).0 (taken (goal.at.loop-step-preserved c).In-Past).1 c.write_flag.ensures,
-      ap length c.write_flag.ensures ∙ flag_length _ _ _ ∙ inv.1,
-    )
+    let g = gone (goal.at.loop-step-preserved c).In-Ok-Step in
+    let did = past_is _ _ g.row c.past.result c.past.ensures c.unwrap-passage.result c.unwrap-passage.ensures in
+    turn c.loop-step.invariant g _ _ _ did.0 did.1 c.write_flag.ensures
 
-pub shape_of-out : goal.shape_of-out
-shape_of-out c = c.loop-step.invariant.1
+pub returns-in_default : goal.returns-in_default
+returns-in_default c =
+    let w = c.loop-step.invariant in
+    all_written w (none_left w.passing.going.left c.read.result c.read.ensures (λ t d e. cc))
 
-pub returns : goal.returns
-returns c =
-    let w = c.loop-step.invariant.0 in
-    all_written w (none_left w.passing.going.left c.read-got.result c.read-got.ensures (opened c.in_default.in_default-own.keys2))
+pub returns-in_default-2 : goal.returns-in_default-2
+returns-in_default-2 c =
+    let w = c.loop-step.invariant in
+    all_written w (none_left w.passing.going.left c.read.result c.read.ensures (λ t d e. cc))

@@ -1,43 +1,34 @@
--- The words from i on are left to look at.
-use mathlib.Core.Path.{◌≡◌, refl, sym, ◌∙◌}
-use Prim.Native.Nat.{◌-◌, ◌≤◌}
-use native.Mathlib.Numerals.{add-one}
-use native.Mathlib.Omega.{arith}
-use lib.ListN.{length, drop}
+-- The word that is found, or 0, is the definition's, by cases on the first word.
+use Rattle.std.proofs.Common.{◌≡◌, cond, ℕ, Some, None, Bool, true, false, List, [], ◌∷◌, eqb, unwrap_or, refl, ap, ◌∙◌, rules, tests}
+use Rattle.std.specs.Prelude.{Option}
+use Rattle.std.specs.List.{find}
+use Rattle.std.specs.Option.{option_map}
+use Rattle.std.proofs.lemmas.Iterator.{YieldsList-from_slice}
+use Rattle.std.proofs.lemmas.Iterator.Consumers.{YieldsList-from_copied}
+use Rattle.std.proofs.lemmas.Iterator.Search.{find_from_yields_List}
+use Rattle.bitlaws.specs.Digit.{digit}
 use Rattle.bitlaws.specs.Elimination as law
-use Rattle.seeker.proofs.Words.{first_here, first_next, first_none}
 use Rattle.seeker.proofs.elimination.first_with.Goals as goal
 
-pub loop-i-init : goal.loop-i-init
-loop-i-init c = (omega arith, refl)
+found_or : (t : Bool) (k : ℕ) (o : Option ℕ) → unwrap_or (cond t (Some k) o) 0 ≡ cond t k (unwrap_or o 0)
+found_or true k o = refl
+found_or false k o = refl
 
-pub offset_bounds-words-i : goal.offset_bounds-words-i
-offset_bounds-words-i c = omega arith
+found_is : (j : ℕ) (ks : List ℕ) (o : Option ℕ) → option_map (λ k. k) o ≡ find (λ k. eqb (digit j k) 1) ks → unwrap_or o 0 ≡ law.first_with j ks
+unfolding law.first_with
+found_is j ks o e = same o ∙ ap (λ (o : Option ℕ). unwrap_or o 0) e ∙ by ks
+  where
+    same : (o : Option ℕ) → unwrap_or o 0 ≡ unwrap_or (option_map (λ k. k) o) 0
+    same (Some k) = refl
+    same None = refl
 
-pub bounds-words-i : goal.bounds-words-i
-bounds-words-i c = omega arith
-
-pub word_bit-requires : goal.word_bit-requires
-word_bit-requires c = tt
-
-pub returns-then-word_bit : goal.returns-then-word_bit
-returns-then-word_bit c =
-    let a = c.args in
-    sym (first_here a.words.now a.j c.loop-i.i (omega arith) (sym c.word_bit.ensures ∙ c.if-word_bit.true)) ∙ c.loop-i.invariant.1
-
-pub overflow_add-i : goal.overflow_add-i
-overflow_add-i c = omega arith
-
-pub loop-i-smaller : goal.loop-i-smaller
-loop-i-smaller c = omega arith
-
-pub loop-i-preserved : goal.loop-i-preserved
-loop-i-preserved c =
-    let a = c.args in
-    let next = first_next a.words.now a.j c.loop-i.i (omega arith) (sym c.word_bit.ensures ∙ c.if-word_bit.false) in
-    (omega arith, rw (add-one c.loop-i.i) (sym next ∙ c.loop-i.invariant.1))
+    by : (ks : List ℕ) → unwrap_or (find (λ k. eqb (digit j k) 1) ks) 0 ≡ law.first_with j ks
+    by [] = refl
+    by (k ∷ ks) = found_or (eqb (digit j k) 1) k _ ∙ ap (cond (eqb (digit j k) 1) k) (by ks)
 
 pub returns : goal.returns
 returns c =
-    let a = c.args in
-    sym (first_none a.words.now a.j c.loop-i.i (omega arith)) ∙ c.loop-i.invariant.1
+    let j = c.args.j in
+    let words = c.args.words.now in
+    let found = find_from_yields_List (λ k. eqb (digit j k) 1) _ _ c.find.result c.find.ensures.ran (YieldsList-from_copied (YieldsList-from_slice words cc)) (λ x b q k. search (rules, tests)) in
+    c.unwrap_or.ensures ∙ found_is j words _ found

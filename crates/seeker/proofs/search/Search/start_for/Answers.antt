@@ -1,6 +1,5 @@
 use Prim.Native.Nat.{◌+◌}
 use native.Mathlib.Omega.{arith}
-use lib.Pow.{pow_pos}
 use Rattle.activepauli.specs.Active.{active_of}
 use Rattle.seeker.specs.Steps.{steps_of}
 use Rattle.seeker.proofs.Masks.{masks_placed, none_told, start_told}
@@ -11,11 +10,6 @@ pub returns-then-left-above-ne0 : goal.returns-then-left-above-ne0
 returns-then-left-above-ne0 c =
     let s = c.args.self.now in
     none_told s.width (steps_of s) s.ends (active_of c.args.end) c.requires (rw (shifted (s.last + s.last) (omega (arith, s.last_narrow))) at c.if-left-above-ne0.true)
-
-pub nonzero_div-masks : goal.nonzero_div-masks
-nonzero_div-masks c =
-    let s = c.args.self.now in
-    rw (shifted (s.last + s.last) (omega (arith, s.last_narrow))) (pow_pos (s.last + s.last))
 
 pub end_pauli-carried-requires : goal.end_pauli-carried-requires
 end_pauli-carried-requires c =

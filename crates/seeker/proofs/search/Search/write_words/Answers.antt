@@ -7,9 +7,6 @@ use Rattle.seeker.proofs.OneWord.{shifted}
 use Rattle.seeker.proofs.Written.{all_written}
 use Rattle.seeker.proofs.search.Search.write_words.Goals as goal
 
-pub overflow_shl-bit : goal.overflow_shl-bit
-overflow_shl-bit c = omega (arith, c.args.self.now.width_narrow)
-
 pub with_image-requires : goal.with_image-requires
 with_image-requires c =
     let bit : ℕ = length c.loop-i.words - 1 - c.loop-i.i in

@@ -1,5 +1,5 @@
 -- What logging and judging answer and leave, from what the check, the walks and the rows say.
-use mathlib.Core.Path.{◌≡◌, refl, sym, ap, ap₂, ◌∙◌}
+use mathlib.Core.Path.{◌≡◌, refl, sym, ap, ap₂, ◌∙◌, subst}
 use mathlib.Core.Bool.{Bool, not}
 use mathlib.Core.List.{List, ◌++◌}
 use Prim.Native.Nat.{ℕ, ◌+◌, ◌≤◌}
@@ -25,7 +25,7 @@ use Rattle.framelog.specs.LogIn.{log_in, Started}
 
 module _ (caller : Caller) (s : List ℕ) (Q : Pauli) where
   -- the answer a, and u left in the output
-  abbrev Logs : List ℕ → Answer ℕ → List ℕ → Type 0
+  abbrev pub Logs : List ℕ → Answer ℕ → List ℕ → Type 0
   Logs out a u = (a ≡ (logging caller s Q out).answer) × (u ≡ (logging caller s Q out).lent)
 
   -- ---- a run that is refused
@@ -108,3 +108,7 @@ module _ (caller : Caller) (s : List ℕ) (Q : Pauli) where
 
         pub judged : r ≡ 0 → (same : Bool) → same ≡ is_same log right → accepted same ≡ judging caller s Q log
         judged z same e = ap accepted e ∙ sym (judged_by_lem ∙ answered_none r (is_same log right) z)
+
+-- callers under whom the same may be asked
+pub logs_under : (s : List ℕ) (Q : Pauli) (out : List ℕ) {k l : Caller} {a : Answer ℕ} {u : List ℕ} → k ≡ l → Logs k s Q out a u → Logs l s Q out a u
+logs_under s Q out {k} {l} {a} {u} same did = subst (λ (c : Caller). Logs c s Q out a u) same did

@@ -7,123 +7,76 @@ mod pauli_bytes;
 mod walk;
 
 ghost use Rattle.std.specs.Prelude.{◌≡◌, length};
-ghost use Rattle.answers.specs.Row.{row, first};
+ghost use Rattle.answers.specs.Row as table;
 ghost use Rattle.activepauli.specs.Active.{active_of};
-ghost use Rattle.callers.specs.Meaning.{caller_of};
-ghost use Rattle.framelaws.specs.Caller.{service, emulator};
+ghost use Rattle.callers.specs.Meaning.{caller_of, limits_of};
 ghost use Rattle.framelaws.specs.PassRow.{placed_row};
+ghost use Rattle.refusals.specs.Refusal.{number_of, row_of, refusal_answer_of};
 ghost use Rattle.runlaws.specs.Calls.{logging, judging};
 ghost use Rattle.runlaws.specs.FrameLog.{is_same};
 ghost use Rattle.runlaws.specs.OnStart.{OnStart};
-ghost use Rattle.framelog.specs.Meaning.{log_answer_of, judge_answer_of};
 ghost use Rattle.framelog.specs.LogIn.{log_in};
 
 use activepauli::ActivePauli;
-use callers::Caller;
-use checker::Checked;
+use callers::{Caller, Limits};
+use refusals::{Refusal, Row, refuse_if};
 
 // A log has no more bytes: a sign or a branch stands in a field of 30 bytes or more.
 const LONGEST_LOG: usize = 2201;
 
-// How many bytes the log has; or the run's own refusal with its place, or 3, 4 or 16.
-#[derive(Clone, Copy)]
-pub enum LogAnswer {
-    Logged(usize),
-    Refused(u8),
-    RefusedAt(u8, usize),
-}
-
-// Whether the log is right; or the run's own refusal with its place, or 3, 4 or 24.
-#[derive(Clone, Copy)]
-pub enum JudgeAnswer {
-    Judged(bool),
-    Refused(u8),
-    RefusedAt(u8, usize),
-}
-
-// The log of a run of the service whose unit carries `pauli`. The output holds it, and what it held past it; on a refusal
-// it stays as it was.
-pub fn log_run(run: &[u8], pauli: ActivePauli, out: &mut [u8]) -> LogAnswer
-    ensures { let did = logging service run.now (active_of pauli) out.old in
-        (log_answer_of result ≡ did.answer) × (out.new ≡ did.lent) }
-{
-    log_for(run, pauli, out, Caller::service())
-}
-
-// The same of the emulator.
-pub fn log_emulated(run: &[u8], pauli: ActivePauli, out: &mut [u8]) -> LogAnswer
-    ensures { let did = logging emulator run.now (active_of pauli) out.old in
-        (log_answer_of result ≡ did.answer) × (out.new ≡ did.lent) }
-{
-    log_for(run, pauli, out, Caller::Emulator)
-}
-
-// Whether `log`, whoever made it, is the log of a run of the service whose unit carries `pauli`.
-pub fn judge_log(run: &[u8], pauli: ActivePauli, log: &[u8]) -> JudgeAnswer
-    ensures { judge_answer_of result ≡ judging service run.now (active_of pauli) log.now }
-{
-    judge_for(run, pauli, log, Caller::service())
-}
-
-// The same of the emulator.
-pub fn judge_emulated(run: &[u8], pauli: ActivePauli, log: &[u8]) -> JudgeAnswer
-    ensures { judge_answer_of result ≡ judging emulator run.now (active_of pauli) log.now }
-{
-    judge_for(run, pauli, log, Caller::Emulator)
-}
-
-fn log_for(run: &[u8], pauli: ActivePauli, out: &mut [u8], caller: Caller) -> LogAnswer
+// How many bytes the log of the caller's run has, whose unit carries `pauli`; or the run's own refusal with its place, or
+// 3, 4 or 16. The output holds the log, and what it held past it; on a refusal it stays as it was.
+pub fn log_run(
+    run: &[u8],
+    pauli: ActivePauli,
+    out: &mut [u8],
+    caller: Caller,
+) -> Result<usize, Refusal>
     ensures { let did = logging (caller_of caller) run.now (active_of pauli) out.old in
-        (log_answer_of result ≡ did.answer) × (out.new ≡ did.lent) }
+        (refusal_answer_of (λ size. size) result ≡ did.answer) × (out.new ≡ did.lent) }
 {
-    match checker::check_with_start(run, caller) {
-        Checked::Refused(row, at) => LogAnswer::RefusedAt(row, at),
-        Checked::Run(width, _) => {
-            let size = walk::log_size(run, width, caller);
-            let row = log_row(pauli, width, out.len() < size, 16);
-            if row != 0 {
-                return LogAnswer::Refused(row);
-            }
-            walk::write_log(run, pauli, out, caller);
-            LogAnswer::Logged(size)
-        }
-    }
+    let limits = caller.limits();
+    let width = checker::check_with_start(run, limits)?.start;
+    let size = walk::log_size(run, width, limits);
+    log_row(pauli, width, out.len() < size, Row::OutputTooShort)?;
+    walk::write_log(run, pauli, out, limits);
+    Ok(size)
 }
 
-fn judge_for(run: &[u8], pauli: ActivePauli, log: &[u8], caller: Caller) -> JudgeAnswer
-    ensures { judge_answer_of result ≡ judging (caller_of caller) run.now (active_of pauli) log.now }
+// Whether `log`, whoever made it, is the log of the caller's run whose unit carries `pauli`; or the run's own refusal with
+// its place, or 3, 4 or 24.
+pub fn judge_log(
+    run: &[u8],
+    pauli: ActivePauli,
+    log: &[u8],
+    caller: Caller,
+) -> Result<bool, Refusal>
+    ensures { refusal_answer_of (λ right. right) result ≡ judging (caller_of caller) run.now (active_of pauli) log.now }
 {
-    match checker::check_with_start(run, caller) {
-        Checked::Refused(row, at) => JudgeAnswer::RefusedAt(row, at),
-        Checked::Run(width, _) => {
-            let size = walk::log_size(run, width, caller);
-            let row = log_row(pauli, width, log.len() != size, 24);
-            if row != 0 {
-                return JudgeAnswer::Refused(row);
-            }
-            JudgeAnswer::Judged(is_right(run, pauli, log, caller))
-        }
-    }
+    let limits = caller.limits();
+    let width = checker::check_with_start(run, limits)?.start;
+    let size = walk::log_size(run, width, limits);
+    log_row(pauli, width, log.len() != size, Row::LogLength)?;
+    Ok(is_right(run, pauli, log, limits))
 }
 
 // 3 and 4, and behind them a row of the call's own.
-fn log_row(pauli: ActivePauli, width: usize, refused: bool, number: u8) -> u8
-    ensures { result ≡ first (placed_row (active_of pauli) width) (row refused number 0) }
+fn log_row(pauli: ActivePauli, width: usize, refused: bool, own: Row) -> Result<(), Row>
+    ensures { row_of result ≡ table.first (placed_row (active_of pauli) width) (table.row refused (number_of own) 0) }
 {
-    let placed = passing::placed_row(pauli, width);
-    let own = rows::row(refused, number);
-    rows::first(placed, own)
+    passing::placed_row(pauli, width)?;
+    refuse_if(refused, own)
 }
 
 // Whether a log as long as the right one is the right one.
-fn is_right(run: &[u8], pauli: ActivePauli, log: &[u8], caller: Caller) -> bool
-    requires on_start { OnStart (caller_of caller) run.now (active_of pauli) }
-    requires log_len { length log.now ≡ length (log_in (caller_of caller) run.now (active_of pauli)) }
-    ensures { result ≡ is_same log.now (log_in (caller_of caller) run.now (active_of pauli)) }
+fn is_right(run: &[u8], pauli: ActivePauli, log: &[u8], limits: Limits) -> bool
+    requires on_start { OnStart (limits_of limits) run.now (active_of pauli) }
+    requires log_len { length log.now ≡ length (log_in (limits_of limits) run.now (active_of pauli)) }
+    ensures { result ≡ is_same log.now (log_in (limits_of limits) run.now (active_of pauli)) }
 {
     let size = log.len();
     let mut space = zeros();
-    compared(run, pauli, log, &mut space[0..size], caller)
+    compared(run, pauli, log, &mut space[0..size], limits)
 }
 
 fn zeros() -> [u8; LONGEST_LOG]
@@ -133,11 +86,11 @@ fn zeros() -> [u8; LONGEST_LOG]
 }
 
 // The log beside the right one, which is written to `right`, as long as it is.
-fn compared(run: &[u8], pauli: ActivePauli, log: &[u8], right: &mut [u8], caller: Caller) -> bool
-    requires on_start { OnStart (caller_of caller) run.now (active_of pauli) }
-    requires right_len { length right.old ≡ length (log_in (caller_of caller) run.now (active_of pauli)) }
-    ensures { result ≡ is_same log.now (log_in (caller_of caller) run.now (active_of pauli)) }
+fn compared(run: &[u8], pauli: ActivePauli, log: &[u8], right: &mut [u8], limits: Limits) -> bool
+    requires on_start { OnStart (limits_of limits) run.now (active_of pauli) }
+    requires right_len { length right.old ≡ length (log_in (limits_of limits) run.now (active_of pauli)) }
+    ensures { result ≡ is_same log.now (log_in (limits_of limits) run.now (active_of pauli)) }
 {
-    walk::write_log(run, pauli, right, caller);
-    check::same(log, right)
+    walk::write_log(run, pauli, right, limits);
+    log == right
 }

@@ -24,11 +24,5 @@ fn put_word(word: u64, to: usize, out: &mut [u8])
     requires { to + 8 ≤ length out.old }
     ensures { out.new ≡ sets out.old to (bytes_of 8 word) }
 {
-    let mut left = word;
-    let mut i = 0;
-    while i < 8 {
-        out[to + i] = (left % 256) as u8;
-        left /= 256;
-        i += 1;
-    }
+    out[to..to + 8].copy_from_slice(&word.to_le_bytes());
 }

@@ -1,6 +1,5 @@
 use native.Mathlib.Omega.{arith}
 use Rattle.framelog.proofs.Longest.{no_longer}
-use borrow.Author.Rules.{rules}
 use Rattle.framelog.proofs.is_right.Goals as goal
 
 pub slice_bounds-space-end : goal.slice_bounds-space-end

@@ -4,7 +4,6 @@ use native.Mathlib.Omega.{arith}
 use lib.ListN.{length-set}
 use Rattle.activepauli.specs.Active.{active_of}
 use Rattle.framelog.proofs.PauliStored.{set_fits, pauli_stored}
-use borrow.Author.Rules.{rules}
 use Rattle.framelog.proofs.pauli_bytes.put.Goals as goal
 
 pub put_word-requires : goal.put_word-requires

@@ -1,26 +1,22 @@
 -- behind the step that was read
-use mathlib.Core.Path.{sym, ap, ◌∙◌}
-use Prim.Native.Nat.{◌+◌, ◌-◌}
+use mathlib.Core.Path.{◌≡◌, sym, ap}
+use mathlib.Core.List.{[]}
+use Prim.Native.Nat.{◌+◌}
 use native.Mathlib.Omega.{arith}
-use lib.ListN.{length}
-use Rattle.callers.specs.Meaning.{caller_of}
-use Rattle.runlaws.specs.FrameLog.{flags_of}
-use Rattle.runlaws.specs.OnStart.{run_in}
 use Rattle.steps.proofs.Ended.{none_left}
-use Rattle.steps.specs.Meaning.{cursor_of, step_of, read_of}
-use Rattle.framelog.proofs.Counting.{Counting, Counted, counting_outset, counted, all_counted}
-use borrow.Enum.Refused.{opened}
+use Rattle.steps.specs.Meaning.{cursor_of, step_of}
+use Rattle.framelog.proofs.Counting.{Counted, counting_outset, counted, all_counted}
 use borrow.Author.Rules.{rules}
 use Rattle.framelog.proofs.walk.log_size.Goals as goal
-use Rattle.framelog.proofs.walk.log_size.Goals.{After-flag_count-count}
+use Rattle.framelog.proofs.walk.log_size.Goals.{After-flag_count-count, Joined-read, in_default, in_default-2}
 
 pub loop-step-init : goal.loop-step-init
 loop-step-init c = counting_outset _ _ _ c.requires
 
 behind : (c : After-flag_count-count) → let w = c.loop-step.invariant in
-    Counted w (step_of c.in-Step.step) (cursor_of c.in-Step.next) c.flag_count-count.result
+    Counted w (step_of c.in-Ok-Step.step) (cursor_of c.in-Ok-Step.next) c.flag_count-count.result
 behind c =
-    counted c.loop-step.invariant _ _ _ (sym c.read-got.ensures ∙ ap read_of c.in-Step.is) c.flag_count-count.ensures
+    counted c.loop-step.invariant _ _ _ (sym (rw c.in-Ok-Step.field-0-is at c.in-Ok-Step.ensures)) c.flag_count-count.ensures
 
 pub overflow_add-count : goal.overflow_add-count
 overflow_add-count c = omega (arith, (behind c).few)
@@ -34,7 +30,11 @@ loop-step-preserved c = (behind c).next
 pub overflow_add-result : goal.overflow_add-result
 overflow_add-result c = let w = c.loop-step.invariant in omega (arith, w.counts, w.few)
 
+ended : (c : Joined-read) → c.loop-step.invariant.steps ≡ []
+ended c = elim c.match-read.branch [
+  | in_default w ↦ none_left c.loop-step.invariant.left c.read.result c.read.ensures (λ t d h. search rules)
+  | in_default-2 w ↦ none_left c.loop-step.invariant.left c.read.result c.read.ensures (λ t d h. search rules)
+]
+
 pub returns : goal.returns
-returns c =
-    let w = c.loop-step.invariant in
-    ap (λ n. n + 17) (all_counted w (none_left w.left c.read-got.result c.read-got.ensures (opened c.in_default.in_default-own.keys2)))
+returns c = ap (λ n. n + 17) (all_counted c.loop-step.invariant (ended (goal.at.returns c).Joined-read))

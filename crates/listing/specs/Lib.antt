@@ -1,4 +1,5 @@
 pub mod Listing
+pub mod Refused
 pub mod Start
 pub mod Laws
 pub mod Room

@@ -1,5 +1,5 @@
 -- How long a listing can be: no buffer of `most_text` bytes is too short.
-use Rattle.std.specs.Prelude.{◌≡◌, refl, List, ℕ, ◌^◌, ◌≤◌, length}
+use Rattle.std.specs.Prelude.{◌≡◌, refl, List, ℕ, ◌^◌, ◌≤◌, length, Result, Ok}
 use Rattle.std.proofs.Common.{arith, length-append, pow_mono}
 use Rattle.answers.specs.Answer.{Answer}
 use Rattle.answers.specs.Answer.Answer.{accepted, refused, refused_at}
@@ -8,8 +8,7 @@ use Rattle.lines.specs.Calls.{Lined}
 use Rattle.lines.specs.Lengths.{decimal_most, width_length, refusal_length}
 use Rattle.lines.specs.Lines.{width_line, refusal_line}
 use Rattle.lines.specs.Pieces.{lined_fits}
-use Rattle.paulitext.specs.declared.TextAnswer.{TextAnswer}
-use Rattle.paulitext.specs.declared.TextAnswer.TheVariants as text
+use Rattle.refusals.specs.declared.Row.{Row}
 use Rattle.runlaws.specs.Calls.{Ending, running}
 use Rattle.runlaws.specs.Outcomes.{ending_within}
 use Rattle.framelaws.specs.Caller.{widest_run, service}
@@ -49,5 +48,5 @@ listed_most s = by (running service s fresh).answer refl (service_most widest_ru
 
 -- ---- so writing it there is not refused
 
-pub listed_fits : (s out : List ℕ) (r : TextAnswer) (left : List ℕ) → most_text ≤ length out → Lined (listed s) out r left → r ≡ text.Length (length (listed s))
+pub listed_fits : (s out : List ℕ) (r : Result ℕ Row) (left : List ℕ) → most_text ≤ length out → Lined (listed s) out r left → r ≡ Ok (length (listed s))
 listed_fits s out r left h l = (lined_fits (listed s) out r left (omega (arith, h, listed_most s)) l).0

@@ -1,5 +1,5 @@
 -- What folding answers and leaves in the output, from what the check and the loops say.
-use mathlib.Core.Path.{◌≡◌, refl, sym, ap, ◌∙◌}
+use mathlib.Core.Path.{◌≡◌, refl, sym, ap, ◌∙◌, subst}
 use mathlib.Core.List.{List, ◌++◌}
 use Prim.Native.Nat.{ℕ, ◌≤◌, ◌<◌}
 use native.Mathlib.Omega.{arith}
@@ -22,7 +22,7 @@ use Rattle.folder.specs.Foldable.{Foldable}
 
 module _ (caller : Caller) (s out : List ℕ) where
   -- the answer a, and u left
-  abbrev Folds : Answer Folding → List ℕ → Type 0
+  abbrev pub Folds : Answer Folding → List ℕ → Type 0
   Folds a u = (a ≡ (folding caller s out).answer) × (u ≡ (folding caller s out).lent)
 
   pub run_refused : (n at : ℕ) → checking_with_start caller s ≡ refused_at n at → Folds (refused_at n at) out
@@ -63,3 +63,7 @@ module _ (caller : Caller) (s out : List ℕ) where
           let zero : folding_row size (length out) ≡ 0 = unfold folding_row row in rw (le-ltb (length out) size h) in
           let value : ◌≡◌ {A = Folding} (record { end = Q; size = size }) (folding_of s R) = λ i. record { end = ends i; size = is i } in
           rw (checked_read caller s checked, value) (passing (folding_row (length (folded_run R s)) (length out)) (folding_of s R) new out out' (sym row_is ∙ zero) writes)
+
+-- callers under whom the same may be asked
+pub under : (s out : List ℕ) {k l : Caller} {a : Answer Folding} {u : List ℕ} → k ≡ l → Folds k s out a u → Folds l s out a u
+under s out {k} {l} {a} {u} same did = subst (λ (c : Caller). Folds c s out a u) same did

@@ -1,12 +1,7 @@
 -- What the folder's declared types mean.
-use Rattle.answers.specs.Answer.{Answer}
-use Rattle.answers.specs.Answer.Answer.{accepted, refused, refused_at}
 use Rattle.activepauli.specs.Active.{active_of}
 use Rattle.runlaws.specs.Calls.{Folding}
-use Rattle.folder.specs.declared.FoldAnswer.{FoldAnswer}
-use Rattle.folder.specs.declared.FoldAnswer.TheVariants as fold
+use Rattle.folder.specs.declared.Folded.{Folded}
 
-abbrev pub fold_answer_of : FoldAnswer → Answer Folding
-fold_answer_of (fold.Folded P size) = accepted (record { end = active_of P; size = size })
-fold_answer_of (fold.Refused n) = refused n
-fold_answer_of (fold.RefusedAt n at) = refused_at n at
+abbrev pub folded_of : Folded → Folding
+folded_of f = record { end = active_of f.end; size = f.size }

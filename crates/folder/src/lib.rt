@@ -6,77 +6,53 @@
 
 mod past;
 
-ghost use Rattle.std.specs.Prelude.{◌≡◌, ◌++◌, ◌≤◌, length, drop};
+ghost use Rattle.std.specs.Prelude.{◌≡◌, ◌++◌, length, drop, ◌≤◌};
 ghost use Rattle.activepauli.specs.Active.{active_of};
-ghost use Rattle.callers.specs.Meaning.{caller_of};
-ghost use Rattle.framelaws.specs.Caller.{service, emulator, widest_run};
+ghost use Rattle.callers.specs.Meaning.{caller_of, limits_of};
+ghost use Rattle.refusals.specs.Refusal.{refusal_answer_of};
 ghost use Rattle.runlaws.specs.Calls.{folding};
-ghost use Rattle.folder.specs.Meaning.{fold_answer_of};
+ghost use Rattle.folder.specs.Meaning.{folded_of};
 ghost use Rattle.folder.specs.Foldable.{left_in, end_in, Foldable};
 
 use activepauli::ActivePauli;
-use callers::Caller;
-use checker::Checked;
+use callers::{Caller, Limits};
+use refusals::{Refusal, Row};
 use steps::{Cursor, Read};
 
-// The end Pauli, and how many bytes are left; or the run's own refusal with its place, or 16.
+// The end Pauli, and how many bytes are left.
 #[derive(Clone, Copy)]
-pub enum FoldAnswer {
-    Folded(ActivePauli, usize),
-    Refused(u8),
-    RefusedAt(u8, usize),
+pub struct Folded {
+    pub end: ActivePauli,
+    pub size: usize,
 }
 
-// A run of the service. The output holds the run that is left, and what it held past that; on a refusal it stays as it
-// was.
-pub fn fold_run(run: &[u8], out: &mut [u8]) -> FoldAnswer
-    ensures { let did = folding service run.now out.old in
-        (fold_answer_of result ≡ did.answer) × (out.new ≡ did.lent) }
-{
-    fold_for(run, out, Caller::service())
-}
-
-// The same of the emulator.
-pub fn fold_emulated(run: &[u8], out: &mut [u8]) -> FoldAnswer
-    ensures { let did = folding emulator run.now out.old in
-        (fold_answer_of result ≡ did.answer) × (out.new ≡ did.lent) }
-{
-    fold_for(run, out, Caller::Emulator)
-}
-
-fn fold_for(run: &[u8], out: &mut [u8], caller: Caller) -> FoldAnswer
-    requires { (caller_of caller).widest ≤ widest_run }
+// A run of the caller's; or the run's own refusal with its place, or 16. The output holds the run that is left, and what
+// it held past that; on a refusal it stays as it was.
+pub fn fold_run(run: &[u8], out: &mut [u8], caller: Caller) -> Result<Folded, Refusal>
     ensures { let did = folding (caller_of caller) run.now out.old in
-        (fold_answer_of result ≡ did.answer) × (out.new ≡ did.lent) }
+        (refusal_answer_of folded_of result ≡ did.answer) × (out.new ≡ did.lent) }
 {
-    match checker::check_with_start(run, caller) {
-        Checked::Refused(row, at) => FoldAnswer::RefusedAt(row, at),
-        Checked::Run(width, _) => {
-            let size = left_size(run, width, caller);
-            if out.len() < size {
-                return FoldAnswer::Refused(16);
-            }
-            let last = fold_steps(run, width, out, caller);
-            FoldAnswer::Folded(last, size)
-        }
+    let limits = caller.limits();
+    let width = checker::check_with_start(run, limits)?.start;
+    let size = left_size(run, width, limits);
+    if out.len() < size {
+        return Err(Refusal::Whole(Row::OutputTooShort));
     }
+    let end = fold_steps(run, width, out, limits);
+    Ok(Folded { end, size })
 }
 
 // How many bytes are left of a run that was checked. What is no step is the run's end.
-fn left_size(run: &[u8], width: usize, caller: Caller) -> usize
-    requires { Foldable (caller_of caller) run.now width }
-    ensures { result ≡ length (left_in (caller_of caller) run.now) }
+fn left_size(run: &[u8], width: usize, limits: Limits) -> usize
+    requires { Foldable (limits_of limits) run.now width }
+    ensures { result ≡ length (left_in (limits_of limits) run.now) }
 {
     let mut cursor = Cursor {
         at: fields::START_BYTES,
         width,
     };
     let mut size = run.len();
-    loop {
-        let got = reader::read(run, cursor, caller);
-        let Read::Step(step, next) = got else {
-            break;
-        };
+    while let Ok(Read::Step(step, next)) = reader::read(run, cursor, limits) {
         size -= past::freed(step);
         cursor = next;
     }
@@ -84,11 +60,11 @@ fn left_size(run: &[u8], width: usize, caller: Caller) -> usize
 }
 
 // The same run's fields, written: the Pauli at the end.
-fn fold_steps(run: &[u8], width: usize, out: &mut [u8], caller: Caller) -> ActivePauli
-    requires foldable { Foldable (caller_of caller) run.now width }
-    requires run_in_bounds { length (left_in (caller_of caller) run.now) ≤ length out.old }
-    ensures result_value { active_of result ≡ end_in (caller_of caller) run.now }
-    ensures out_after { let left = left_in (caller_of caller) run.now in
+fn fold_steps(run: &[u8], width: usize, out: &mut [u8], limits: Limits) -> ActivePauli
+    requires foldable { Foldable (limits_of limits) run.now width }
+    requires run_in_bounds { length (left_in (limits_of limits) run.now) ≤ length out.old }
+    ensures result_value { active_of result ≡ end_in (limits_of limits) run.now }
+    ensures out_after { let left = left_in (limits_of limits) run.now in
         out.new ≡ left ++ drop (length left) out.old }
 {
     let mut cursor = Cursor {
@@ -97,11 +73,7 @@ fn fold_steps(run: &[u8], width: usize, out: &mut [u8], caller: Caller) -> Activ
     };
     let mut held = past::identity(width);
     let mut to = octets::copy(&run[0..fields::START_BYTES], out);
-    loop {
-        let got = reader::read(run, cursor, caller);
-        let Read::Step(step, next) = got else {
-            break;
-        };
+    while let Ok(Read::Step(step, next)) = reader::read(run, cursor, limits) {
         let from = cursor.at;
         let until = next.at;
         let count = past::write_left(&run[from..until], held, step, &mut out[to..]);

@@ -3,24 +3,22 @@
 -- what is written in the end, over the output as it was lent
 use mathlib.Core.Path.{◌≡◌, refl, sym, ap, ◌∙◌}
 use mathlib.Core.List.{[], ◌++◌}
-use Prim.Native.Nat.{◌-◌}
 use native.Mathlib.Omega.{arith}
 use lib.ListN.{length, drop, length-take}
 use Rattle.paulilaws.specs.Pauli as pauli
 use Rattle.activepauli.specs.Active.{active_of}
-use Rattle.callers.specs.Meaning.{caller_of}
+use Rattle.callers.specs.Meaning.{limits_of}
 use Rattle.framelaws.specs.Folding.{folded_end}
 use Rattle.runlaws.specs.FoldedRun.{folded_run}
 use Rattle.runlaws.specs.Going.{Gone, going_step}
 use Rattle.runlaws.specs.OnStart.{run_in}
 use Rattle.runlaws.specs.WholeRun.{run_allowed}
 use Rattle.steps.proofs.Ended.{none_left}
-use Rattle.steps.specs.Meaning.{cursor_of, step_of, read_of}
-use Rattle.folder.proofs.Turn.{Writing, outset, start_fits, copied_tail, put_back, left_room, left_small, turn, rest_room, all_written, all_long}
-use borrow.Enum.Refused.{opened}
+use Rattle.steps.specs.Meaning.{cursor_of, step_of}
+use Rattle.folder.proofs.Turn.{outset, start_fits, copied_tail, put_back, left_room, left_small, turn, rest_room, all_written, all_long}
 use borrow.Author.Rules.{rules, Fits-under}
 use Rattle.folder.proofs.fold_steps.Goals as goal
-use Rattle.folder.proofs.fold_steps.Goals.{After-slice_known-3-1, In-Step, In_default}
+use Rattle.folder.proofs.fold_steps.Goals.{After-copy, In-Ok-Step, Joined-read, in_default, in_default-2}
 
 pub slice_bounds-copy-end : goal.slice_bounds-copy-end
 slice_bounds-copy-end c = (run_allowed _ _ _ c.requires.foldable.read).begins
@@ -28,56 +26,55 @@ slice_bounds-copy-end c = (run_allowed _ _ _ c.requires.foldable.read).begins
 pub copy-to-requires : goal.copy-to-requires
 copy-to-requires c =
     let a = c.args in
-    let four = start_fits (caller_of a.caller) a.run.now a.width c.requires.foldable a.out.now c.requires.run_in_bounds in
+    let four = start_fits (limits_of a.limits) a.run.now a.width c.requires.foldable a.out.now c.requires.run_in_bounds in
     simp length-take (omega (arith, four))
 
 pub loop-step-init : goal.loop-step-init
 loop-step-init c =
     outset _ _ _ c.requires.foldable c.args.out.now _ _ _ _ c.requires.run_in_bounds c.identity-held.ensures refl c.copy-to.ensures.0 c.copy-to.ensures.1
 
-gone : (c : In-Step) → let w = c.loop-step.invariant in
+gone : (c : In-Ok-Step) → let w = c.loop-step.invariant in
     let a = c.args in
-    let t = step_of c.in-Step.step in
-    let next = cursor_of c.in-Step.next in
-    Gone (caller_of a.caller) a.run.now (cursor_of c.loop-step.cursor) (active_of c.loop-step.held) w.steps t next
+    let t = step_of c.in-Ok-Step.step in
+    let next = cursor_of c.in-Ok-Step.next in
+    Gone (limits_of a.limits) a.run.now (cursor_of c.loop-step.cursor) (active_of c.loop-step.held) w.steps t next
 gone c =
-    going_step c.loop-step.invariant.going _ _ (sym c.read-got.ensures ∙ ap read_of c.in-Step.is)
+    going_step c.loop-step.invariant.going _ _ (sym (rw c.in-Ok-Step.field-0-is at c.in-Ok-Step.ensures))
 
 pub slice_bounds-write_left-count : goal.slice_bounds-write_left-count
-slice_bounds-write_left-count c = let g = gone (goal.at.slice_bounds-write_left-count c).In-Step in omega (arith, g.read.next)
+slice_bounds-write_left-count c = let g = gone (goal.at.slice_bounds-write_left-count c).In-Ok-Step in omega (arith, g.read.next)
 
 pub slice_bounds-write_left-start : goal.slice_bounds-write_left-start
-slice_bounds-write_left-start c = let g = gone (goal.at.slice_bounds-write_left-start c).In-Step in omega (arith, g.read.next)
+slice_bounds-write_left-start c = let g = gone (goal.at.slice_bounds-write_left-start c).In-Ok-Step in omega (arith, g.read.next)
 
 pub slice_bounds-write_left-end : goal.slice_bounds-write_left-end
-slice_bounds-write_left-end c = let g = gone (goal.at.slice_bounds-write_left-end c).In-Step in g.read.inside
-
-pub slice_bounds-write_left-count-in-loop-step : goal.slice_bounds-write_left-count-in-loop-step
-slice_bounds-write_left-count-in-loop-step c = c.loop-step.invariant.inside
+slice_bounds-write_left-end c = let g = gone (goal.at.slice_bounds-write_left-end c).In-Ok-Step in g.read.inside
 
 pub write_left-count-requires : goal.write_left-count-requires
 write_left-count-requires c =
-    let g = gone (goal.at.write_left-count-requires c).In-Step in
+    let g = gone (goal.at.write_left-count-requires c).In-Ok-Step in
     record { step_value = g.row; field_in_bounds = left_room c.loop-step.invariant g }
 
 pub overflow_add-to : goal.overflow_add-to
 overflow_add-to c =
-    let small = left_small c.loop-step.invariant (gone (goal.at.overflow_add-to c).In-Step) in
+    let small = left_small c.loop-step.invariant (gone (goal.at.overflow_add-to c).In-Ok-Step) in
     Fits-under _ _ 65537 (omega (arith, small, c.write_left-count.ensures.0)) tt
 
 pub folded-held-requires : goal.folded-held-requires
-folded-held-requires c = (gone (goal.at.folded-held-requires c).In-Step).row
+folded-held-requires c = (gone (goal.at.folded-held-requires c).In-Ok-Step).row
 
 pub loop-step-smaller : goal.loop-step-smaller
-loop-step-smaller c = (gone (goal.at.loop-step-smaller c).In-Step).less
+loop-step-smaller c = (gone (goal.at.loop-step-smaller c).In-Ok-Step).less
 
 pub loop-step-preserved : goal.loop-step-preserved
 loop-step-preserved c =
-    turn c.loop-step.invariant (gone (goal.at.loop-step-preserved c).In-Step) _ _ _ _ c.write_left-count.ensures.0 c.write_left-count.ensures.1 refl c.folded-held.ensures
+    turn c.loop-step.invariant (gone (goal.at.loop-step-preserved c).In-Ok-Step) _ _ _ _ c.write_left-count.ensures.0 c.write_left-count.ensures.1 refl c.folded-held.ensures
 
-ended : (c : In_default) → c.loop-step.invariant.steps ≡ []
-ended c =
-    none_left c.loop-step.invariant.going.left c.read-got.result c.read-got.ensures (opened c.in_default.in_default-own.keys2)
+ended : (c : Joined-read) → c.loop-step.invariant.steps ≡ []
+ended c = elim c.match-read.branch [
+  | in_default w ↦ none_left c.loop-step.invariant.going.left c.read.result c.read.ensures (λ t d h. search rules)
+  | in_default-2 w ↦ none_left c.loop-step.invariant.going.left c.read.result c.read.ensures (λ t d h. search rules)
+]
 
 pub slice_bounds-copy-count-2 : goal.slice_bounds-copy-count-2
 slice_bounds-copy-count-2 c = c.loop-step.invariant.going.left.inside
@@ -92,21 +89,23 @@ pub slice_bounds-copy-start-3 : goal.slice_bounds-copy-start-3
 slice_bounds-copy-start-3 c = c.loop-step.invariant.inside
 
 pub copy-requires : goal.copy-requires
-copy-requires c = rest_room c.loop-step.invariant (ended (goal.at.copy-requires c).In_default)
+copy-requires c = rest_room c.loop-step.invariant (ended (goal.at.copy-requires c).Joined-read)
 
-done : (c : After-slice_known-3-1) → let R = run_in (caller_of c.args.caller) c.args.run.now in
+done : (c : After-copy) → c.loop-step.invariant.steps ≡ [] → let R = run_in (limits_of c.args.limits) c.args.run.now in
     let left = folded_run R c.args.run.now in
     (active_of c.loop-step.held ≡ folded_end (pauli.identity R.width) R.steps)
     × (put_back c.loop-step.out c.loop-step.to c.copy.new.to ≡ left ++ drop (length left) c.args.out.now)
-done c =
-    let end = all_written c.loop-step.invariant (none_left c.loop-step.invariant.going.left c.read-got.result c.read-got.ensures (opened c.in_default.in_default-own.keys2)) _ _ c.copy.ensures.1 refl in
+done c none =
+    let end = all_written c.loop-step.invariant none _ _ c.copy.ensures.1 refl in
     let tail = copied_tail _ _ _ c.requires.foldable c.args.out.now _ _ refl c.copy-to.ensures.1 in
-    (end.0, end.1 ∙ ap (λ l. folded_run (run_in (caller_of c.args.caller) c.args.run.now) c.args.run.now ++ l) tail)
+    (end.0, end.1 ∙ ap (λ l. folded_run (run_in (limits_of c.args.limits) c.args.run.now) c.args.run.now ++ l) tail)
 
 pub shape_of-out : goal.shape_of-out
 shape_of-out c =
     let run = c.args.run.now in
-    ap length (done c).1 ∙ all_long (folded_run (run_in (caller_of c.args.caller) run) run) c.args.out.now c.requires.run_in_bounds
+    ap length (done (goal.at.shape_of-out c).After-copy (ended (goal.at.shape_of-out c).Joined-read)).1 ∙ all_long (folded_run (run_in (limits_of c.args.limits) run) run) c.args.out.now c.requires.run_in_bounds
 
 pub returns : goal.returns
-returns c = record { result_value = (done c).0; out_after = (done c).1 }
+returns c =
+    let did = done (goal.at.returns c).After-copy (ended (goal.at.returns c).Joined-read) in
+    record { result_value = did.0; out_after = did.1 }

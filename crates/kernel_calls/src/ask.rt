@@ -5,139 +5,113 @@ use kernels::{
     PrecomputedActivePauliRotationKernel,
 };
 use pauli_calls::{form, show};
+use refusals::Row;
 
 pub(crate) fn paulis(call: u8, words: [u64; 12]) {
     let a = read::pauli(words, 0);
     let b = read::pauli(words, 4);
     let q = form::index(words[4]);
     match call {
-        b'v' => show::number(a.is_pauli() as u64),
-        b'h' => write::bit(a.is_hermitian()),
-        b'm' => write::made(a.mul(b)),
-        b'a' => write::bit(a.anticommutes(b)),
-        b'e' => write::made(a.raised(form::phase(words[4]))),
-        b'd' => write::made(a.dropped(q)),
-        b'x' => write::bit(a.x_bit(q)),
-        _ => write::bit(a.z_bit(q)),
+        b'v' => show::number(u64::from(a.is_pauli())),
+        b'h' => show::bit(a.is_hermitian()),
+        b'm' => show::answer(a.mul(b), write::made),
+        b'a' => show::bit(a.anticommutes(b)),
+        b'e' => show::answer(a.raised(form::phase(words[4])), write::made),
+        b'd' => show::answer(a.dropped(q), write::made),
+        b'x' => show::bit(a.x_bit(q)),
+        _ => show::bit(a.z_bit(q)),
     }
 }
 
 pub(crate) fn kernels(call: u8, words: [u64; 12]) {
     let pauli = read::pauli(words, 0);
     match call {
-        b'A' => write::action(ActivePauliAction::new(read::string(words))),
-        b'R' => write::rotation_kernel(PrecomputedActivePauliRotationKernel::new(
-            pauli,
-            read::float(words[4]),
-            read::float(words[5]),
-        )),
-        b'M' => write::measurement_kernel(PrecomputedActivePauliMeasurementKernel::with_pivot(
-            pauli,
-            form::index(words[4]),
-        )),
-        _ => write::measurement_kernel(PrecomputedActivePauliMeasurementKernel::from_pauli(pauli)),
+        b'A' => show::answer(ActivePauliAction::new(read::string(words)), write::action),
+        b'R' => {
+            let c = read::float(words[4]);
+            let s = read::float(words[5]);
+            let kernel = PrecomputedActivePauliRotationKernel::new(pauli, c, s);
+            show::answer(kernel, write::rotation_kernel);
+        }
+        b'M' => {
+            let pivot = form::index(words[4]);
+            let kernel = PrecomputedActivePauliMeasurementKernel::with_pivot(pauli, pivot);
+            show::answer(kernel, write::measurement_kernel);
+        }
+        _ => {
+            let kernel = PrecomputedActivePauliMeasurementKernel::from_pauli(pauli);
+            show::answer(kernel, write::measurement_kernel);
+        }
     }
+}
+
+fn step(answer: Result<(), Row>) {
+    show::answer(answer, |()| write::done());
 }
 
 // A call that is lent a state.
-pub(crate) fn on_state(call: u8, words: [u64; 12], text: &[u8]) {
+pub(crate) fn on_state(call: u8, words: [u64; 12], text: &[u8]) -> Option<()> {
     let mut re = [0.0; 160];
     let mut im = [0.0; 160];
-    let first = read::floats(text, &mut re);
-    let from = first.next;
-    let second = read::floats(&text[from..], &mut im);
-    let m = first.count;
-    let n = second.count;
-    if !(first.is_read & second.is_read & (second.next == text.len() - from)) {
-        show::unread();
-        return;
+    let (re, rest) = read::floats(text, &mut re)?;
+    let (im, rest) = read::floats(rest, &mut im)?;
+    if !rest.is_empty() {
+        return None;
     }
-    step(call, words, &mut re[0..m], &mut im[0..n]);
-}
-
-fn step(call: u8, words: [u64; 12], re: &mut [f64], im: &mut [f64]) {
     outcome(call, words, re, im);
     write::floats(re);
     write::floats(im);
+    Some(())
 }
 
 fn outcome(call: u8, words: [u64; 12], re: &mut [f64], im: &mut [f64]) {
     let pauli = read::pauli(words, 0);
-    let pivot = form::index(words[4]);
-    if call == b'r' {
-        let c = read::float(words[5]);
-        let s = read::float(words[6]);
-        let sign = words[4] == 1;
-        write::step(rotation::rotate_contiguous_active(re, im, pauli, sign, c, s));
-        return;
+    match call {
+        b'r' => {
+            let sign = words[4] == 1;
+            let c = read::float(words[5]);
+            let s = read::float(words[6]);
+            step(rotation::rotate_contiguous_active(re, im, pauli, sign, c, s));
+        }
+        b'p' => {
+            let n = form::index(words[0]);
+            let c = read::float(words[1]);
+            let q = read::float(words[2]);
+            step(promotion::promote_contiguous_active(re, im, n, c, q));
+        }
+        b'b' => {
+            let pivot = form::index(words[4]);
+            let branch = words[5] == 1;
+            let weight = measurement::probability_contiguous(re, im, pauli, pivot, branch);
+            show::answer(weight, write::float);
+        }
+        _ => step(correction::correct_contiguous_active(re, im, pauli)),
     }
-    if call == b'p' {
-        let n = form::index(words[0]);
-        let c = read::float(words[1]);
-        let q = read::float(words[2]);
-        write::step(promotion::promote_contiguous_active(re, im, n, c, q));
-        return;
-    }
-    if call == b'b' {
-        let branch = words[5] == 1;
-        write::probability(measurement::probability_contiguous(re, im, pauli, pivot, branch));
-        return;
-    }
-    write::step(correction::correct_contiguous_active(re, im, pauli));
 }
 
 // A projection, which is lent a scratch too.
-pub(crate) fn project(words: [u64; 12], text: &[u8]) {
+pub(crate) fn project(words: [u64; 12], text: &[u8]) -> Option<()> {
     let mut re = [0.0; 160];
     let mut im = [0.0; 160];
-    let first = read::floats(text, &mut re);
-    let from = first.next;
-    let rest = &text[from..];
-    let second = read::floats(rest, &mut im);
-    let then = second.next;
-    let m = first.count;
-    let n = second.count;
-    if !(first.is_read & second.is_read) {
-        show::unread();
-        return;
-    }
-    project_with(words, &rest[then..], &mut re[0..m], &mut im[0..n]);
-}
-
-fn project_with(words: [u64; 12], text: &[u8], re: &mut [f64], im: &mut [f64]) {
     let mut scratch_re = [0.0; 160];
     let mut scratch_im = [0.0; 160];
-    let first = read::floats(text, &mut scratch_re);
-    let from = first.next;
-    let second = read::floats(&text[from..], &mut scratch_im);
-    let m = first.count;
-    let n = second.count;
-    if !(first.is_read & second.is_read & (second.next == text.len() - from)) {
-        show::unread();
-        return;
+    let (re, rest) = read::floats(text, &mut re)?;
+    let (im, rest) = read::floats(rest, &mut im)?;
+    let (scratch_re, rest) = read::floats(rest, &mut scratch_re)?;
+    let (scratch_im, rest) = read::floats(rest, &mut scratch_im)?;
+    if !rest.is_empty() {
+        return None;
     }
-    projected(words, re, im, &mut scratch_re[0..m], &mut scratch_im[0..n]);
-}
-
-fn projected(
-    words: [u64; 12],
-    re: &mut [f64],
-    im: &mut [f64],
-    scratch_re: &mut [f64],
-    scratch_im: &mut [f64],
-) {
-    write::step(measurement::project_contiguous(
-        re,
-        im,
-        scratch_re,
-        scratch_im,
-        read::pauli(words, 0),
-        form::index(words[4]),
-        words[5] == 1,
-        read::float(words[6]),
+    let pauli = read::pauli(words, 0);
+    let pivot = form::index(words[4]);
+    let branch = words[5] == 1;
+    let invnorm = read::float(words[6]);
+    step(measurement::project_contiguous(
+        re, im, scratch_re, scratch_im, pauli, pivot, branch, invnorm,
     ));
     write::floats(re);
     write::floats(im);
     write::floats(scratch_re);
     write::floats(scratch_im);
+    Some(())
 }

@@ -1,6 +1,6 @@
 -- `kernel_calls::read::float` is safe: a word that is read as it stands is no NaN's pattern.
 use mathlib.Core.Path.{subst⁻¹}
-use Rattle.std.proofs.Common.{Bool, not, T, rules}
+use Rattle.std.proofs.Common.{Bool, not, T}
 use lib.Ieee.{nan_bits}
 use Rattle.kernel_calls.proofs.read.float.Goals as goal
 

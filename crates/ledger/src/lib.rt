@@ -6,12 +6,14 @@ ghost use Rattle.amplitudelaws.specs.Memory.{memory_of};
 ghost use Rattle.std.specs.Prelude.{◌≡◌};
 ghost use Rattle.framelaws.specs.Caller.{service, emulator};
 ghost use Rattle.runlaws.specs.Calls.{running};
-ghost use Rattle.answers.specs.Answer.{is_accepted};
 ghost use Rattle.runlaws.specs.Ledger as history;
-ghost use Rattle.runner.specs.Meaning.{run_answer_of};
+ghost use Rattle.refusals.specs.Refusal.{refusal_answer_of};
+ghost use Rattle.runner.specs.Meaning.{finished_of};
 ghost use Rattle.ledger.specs.Meaning.{ledger_of};
 
-use runner::RunAnswer;
+use callers::Caller;
+use refusals::Refusal;
+use runner::Finished;
 
 #[repr(C)]
 #[derive(Clone, Copy)]
@@ -24,7 +26,7 @@ pub struct Ledger {
 // A run's answer, and the ledger behind it.
 #[derive(Clone, Copy)]
 pub struct Served {
-    pub answer: RunAnswer,
+    pub answer: Result<Finished, Refusal>,
     pub ledger: Ledger,
 }
 
@@ -61,14 +63,14 @@ impl Ledger {
     ) -> Served
         ensures fact { let m = memory_of re.old im.old scratch_re.old scratch_im.old in
             let did = running service run.now m in
-            (run_answer_of result.answer ≡ did.answer) × (memory_of re.new im.new scratch_re.new scratch_im.new ≡ did.lent) }
+            (refusal_answer_of finished_of result.answer ≡ did.answer) × (memory_of re.new im.new scratch_re.new scratch_im.new ≡ did.lent) }
         ensures ledger_value { let m = memory_of re.old im.old scratch_re.old scratch_im.old in
             let call : history.Call = record { run = run.now; memory = m } in
             ledger_of result.ledger ≡ history.after (history.serving call) (ledger_of self) }
     {
-        let answer = runner::run_contiguous(run, re, im, scratch_re, scratch_im);
-        let finished = is_finished(answer);
-        let ledger = self.counted(finished);
+        let answer =
+            runner::run_contiguous(run, re, im, scratch_re, scratch_im, Caller::Service);
+        let ledger = self.counted(answer.is_ok());
         Served { answer, ledger }
     }
 
@@ -83,12 +85,13 @@ impl Ledger {
     ) -> Served
         ensures fact { let m = memory_of re.old im.old scratch_re.old scratch_im.old in
             let did = running emulator run.now m in
-            (run_answer_of result.answer ≡ did.answer) × (memory_of re.new im.new scratch_re.new scratch_im.new ≡ did.lent) }
+            (refusal_answer_of finished_of result.answer ≡ did.answer) × (memory_of re.new im.new scratch_re.new scratch_im.new ≡ did.lent) }
         ensures ledger_value { let m = memory_of re.old im.old scratch_re.old scratch_im.old in
             let call : history.Call = record { run = run.now; memory = m } in
             ledger_of result.ledger ≡ history.after (history.emulating call) (ledger_of self) }
     {
-        let answer = runner::run_emulated(run, re, im, scratch_re, scratch_im);
+        let answer =
+            runner::run_contiguous(run, re, im, scratch_re, scratch_im, Caller::Emulator);
         Served {
             answer,
             ledger: self,
@@ -100,16 +103,5 @@ impl Ledger {
 fn one_more(count: u64, more: bool) -> u64
     ensures { result ≡ history.raised_by more count }
 {
-    std::num::wrapping_add_u64(count, more as u64)
-}
-
-// Whether the answer is that of a finished run.
-fn is_finished(answer: RunAnswer) -> bool
-    ensures { result ≡ is_accepted (run_answer_of answer) }
-{
-    match answer {
-        RunAnswer::Finished { width: _, steps: _ } => true,
-        RunAnswer::Refused(_) => false,
-        RunAnswer::RefusedAt(_, _) => false,
-    }
+    count.wrapping_add(u64::from(more))
 }

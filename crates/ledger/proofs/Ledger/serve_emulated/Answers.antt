@@ -5,4 +5,4 @@ use Rattle.ledger.proofs.Ledger.serve_emulated.Goals as goal
 
 pub returns : goal.returns
 unfolding after
-returns c = record { fact = c.run_emulated-answer.ensures; ledger_value = refl }
+returns c = record { fact = c.run_contiguous-answer.ensures; ledger_value = refl }

@@ -14,8 +14,8 @@ pub shifted : (q : ℕ) → q ≤ 24 → (1 * 2 ^ q) % 2 ^ 64 ≡ 2 ^ q
 shifted q h = one_shifted 64 q (omega arith)
 
 module _ (m : ℕ) (P : Pauli) (narrow : m ≤ widest_run) where
-  pub word_small : mask_word m P < 2 ^ 24
-  word_small = omega (arith, word_lt m P, pow_mono {i = m + m} {j = 24} (omega arith))
+  pub word_fits : mask_word m P < 2 ^ 24
+  word_fits = omega (arith, word_lt m P, pow_mono {i = m + m} {j = 24} (omega arith))
 
   -- masks above P's
   pub above_small : (c : ℕ) → c < 2 ^ 24 → c * 2 ^ (m + m) + mask_word m P < 2 ^ 48

@@ -7,7 +7,7 @@ ghost use Rattle.paulilaws.specs.MaskWord as masks;
 use activepauli::ActivePauli;
 
 // The masks on the lowest `width` qubits.
-#[tactic(auto, using(crate::proofs::OneWord::shifted, crate::proofs::OneWord::word_small), unfolding(paulilaws::specs::MaskWord::mask_word))]
+#[tactic(auto, using(crate::proofs::OneWord::shifted, crate::proofs::OneWord::word_fits), unfolding(paulilaws::specs::MaskWord::mask_word))]
 pub(crate) fn mask_word(pauli: ActivePauli, width: usize) -> u64
     requires { width ≤ widest_run }
     ensures { result ≡ masks.mask_word width (active_of pauli) }

@@ -80,8 +80,8 @@ impl Search<'_> {
     #[tactic(auto, using(crate::proofs::OneWord::shifted))]
     pub(crate) fn start_for(&self, end: ActivePauli, left: u64) -> Result<ActivePauli, Row>
         requires { left ≡ frame.remainder self.now.width (steps_of self.now) (active_of end) }
-        ensures { let steps = steps_of self.now in let E = active_of end in
-            answer_of active_of result ≡ answered (row (not (frame.is_reached self.now.width steps E)) 25 0) (frame.start_for self.now.width steps E) }
+        ensures { let n = self.now.width in let steps = steps_of self.now in let E = active_of end in
+            answer_of active_of result ≡ answered (row (not (frame.is_reached n steps E)) 25 0) (frame.start_for n steps E) }
     {
         let above = 1u64 << (self.last + self.last);
         if left % above != 0 {

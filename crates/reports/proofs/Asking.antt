@@ -13,21 +13,23 @@ use Rattle.bitlaws.specs.Order.{le_or_lt}
 use Rattle.octets.specs.Bytes.{index_of, slice}
 use Rattle.paulilaws.specs.Pauli.{Pauli}
 use Rattle.paulis.specs.Strings.{pauli_of}
-use Rattle.paulitext.specs.Calls.{Read, read_call, reading_of}
-use Rattle.paulitext.specs.declared.ReadAnswer.{ReadAnswer}
-use Rattle.paulitext.specs.declared.Reading.{Reading}
-use Rattle.paulitext.specs.declared.Reading.TheVariants as reading
-use Rattle.paulitext.specs.declared.TextAnswer.{TextAnswer}
+use Rattle.paulitext.specs.Calls.{read_call}
+use Rattle.refusals.specs.declared.Refusal.{Refusal}
+use Rattle.refusals.specs.Refusal.{refusal_answer_of}
+use Rattle.activepauli.specs.Narrowed.{narrowed}
+use Rattle.answers.specs.Answer.{Answer}
+use Rattle.answers.specs.Answer.Answer.{accepted}
+use Rattle.std.specs.Prelude.{Result, Err}
+use Rattle.refusals.specs.declared.Row.{Row}
 use Rattle.lines.specs.Calls.{Lined}
-use Rattle.lines.specs.Lines.{refusal_line}
 use Rattle.reports.specs.Found.{found_before, found_after, found_has}
 use Rattle.reports.specs.Input.{before, after, has, number}
 use Rattle.reports.specs.Listing.{answer_text, step_listed, steps_listed, asked, report_listed}
-use Rattle.reports.specs.Narrowed.{narrowed, asked_narrowed, read_fitting}
-use Rattle.reports.specs.Text.{refusal_at_line}
+use Rattle.reports.specs.Narrowed.{asked_narrowed, read_fitting}
+use Rattle.reports.specs.Refused.{refusal_text, refused_text}
 
 -- an equal text is written
-pub written : {s t old left : List ℕ} {r : TextAnswer} → s ≡ t → Lined s old r left → Lined t old r left
+pub written : {s t old left : List ℕ} {r : Result ℕ Row} → s ≡ t → Lined s old r left → Lined t old r left
 written {s} {t} {old} {left} {r} e l = subst (λ (x : List ℕ). Lined x old r left) e l
 
 -- the part of a text from a place on
@@ -53,28 +55,19 @@ module _ (line s : List ℕ) (Q : Pauli) (space : ℕ) (found : space ≡ 0 + in
 
 -- ---- by the line
 
-module _ (line s : List ℕ) (space : ℕ) (found : space ≡ 0 + index_of 32 (slice 0 (length line) line)) (r : ReadAnswer) (read : Read r (read_call (take space line))) where
-  call : (a : Reading) → r.reading ≡ a → read_call (before 32 line) ≡ reading_of a (pauli_of r.pauli)
-  call a e =
-      ap read_call (sym (found_before 32 line space found)) ∙ sym read.told ∙ ap (λ (x : Reading). reading_of x (pauli_of r.pauli)) e
+module _ (line s : List ℕ) (space : ℕ) (found : space ≡ 0 + index_of 32 (slice 0 (length line) line)) where
+  call : {a : Answer Pauli} → a ≡ read_call (take space line) → read_call (before 32 line) ≡ a
+  call read = ap read_call (sym (found_before 32 line space found)) ∙ sym read
 
   abbrev text : List ℕ
   text = answer_text (asked line s) (read_call (before 32 line))
 
-  pub read_done : (P : Pauli) → r.reading ≡ reading.Done → P ≡ narrowed (pauli_of r.pauli) → asked line s P ≡ text
+  pub read_done : {Q P : Pauli} → accepted Q ≡ read_call (take space line) → P ≡ narrowed Q → asked line s P ≡ text
   unfolding answer_text
-  read_done P e n =
-      let Q : Pauli = pauli_of r.pauli in
-      let is = call reading.Done e in
-      rw is (ap (asked line s) n ∙ asked_narrowed Q (read_fitting (before 32 line) Q is) line s)
+  read_done {Q} read n = rw (call read) (ap (asked line s) n ∙ asked_narrowed Q (read_fitting (before 32 line) Q (call read)) line s)
 
-  pub read_refused : (row : ℕ) → r.reading ≡ reading.Refused row → refusal_line row ≡ text
-  unfolding answer_text
-  read_refused row e = rw (call (reading.Refused row) e)
-
-  pub read_refused_at : (row index : ℕ) → r.reading ≡ reading.RefusedAt row index → refusal_at_line row index ≡ text
-  unfolding answer_text
-  read_refused_at row index e = rw (call (reading.RefusedAt row index) e)
+  pub read_refused : (r : Refusal) → refusal_answer_of pauli_of (Err r) ≡ read_call (take space line) → refusal_text r ≡ text
+  read_refused r read = refused_text pauli_of (asked line s) r ∙ ap (answer_text (asked line s)) (sym (call read))
 
 -- ---- the line, and the run behind it
 

@@ -1,3 +1,5 @@
+pub mod Numbers
+pub mod Made
 pub mod Showing
 pub mod Underway
 pub mod Answered

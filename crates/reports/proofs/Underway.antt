@@ -1,13 +1,12 @@
--- What the loop over a run's steps keeps while their lines are put or measured, and that a turn keeps it.
+-- What the loop over a run's steps keeps while their lines are put, or only measured, and that a turn keeps it.
 use mathlib.Core.Path.{◌≡◌, refl, sym, ap, ◌∙◌}
-use mathlib.Core.Bool.{Bool, true, false, cond}
 use mathlib.Core.List.{List, [], ◌++◌, append_assoc}
 use Prim.Native.Nat.{ℕ, suc, ◌+◌, ◌*◌, ◌≤◌}
 use native.Mathlib.Numerals.{add-one}
 use native.Mathlib.Omega.{arith}
 use lib.Ieee.{Float}
 use lib.ListN.{length, length-append}
-use lib.Seq.{sets, length-sets}
+use lib.Seq.{sets}
 use Rattle.paulilaws.specs.Pauli.{Pauli}
 use Rattle.amplitudelaws.specs.Step.{Step}
 use Rattle.framelaws.specs.Caller.{service, widest_run}
@@ -24,58 +23,40 @@ use Rattle.runlaws.specs.WholeRun.{run_allowed}
 use Rattle.reports.specs.Listing.{step_lines, frames_text}
 use Rattle.reports.specs.Narrow.{NarrowPauli}
 use Rattle.reports.specs.NarrowRun.{NarrowFramed, passed_narrow}
-use Rattle.reports.specs.Put.{PutIf}
+use Rattle.reports.specs.Put.{PutFitting}
 use Rattle.reports.specs.Text.{step_line, end_line}
 
 -- the lines of the steps from number i on, with Q before them, and of the end
 unfoldable pub lines_from : ℕ → Pauli → List (Step Float) → List ℕ
 lines_from i Q steps = step_lines i (framed_steps Q steps) ++ end_line (end_pauli Q steps)
 
--- a buffer in which they stand from `at` on, where `writing`
-abbrev pub put : Bool → List ℕ → ℕ → List ℕ → List ℕ
-put writing text at out = cond writing (sets out at text) out
-
 -- At a cursor, with the Pauli as it is there: the lines that are left bring the place and the buffer to what they are in the end. A line has at most 128 bytes, a field at least one.
-pub record Underway (s : List ℕ) (writing : Bool) (all old : List ℕ) (c : Cursor) (Q : Pauli) (i at : ℕ) (out : List ℕ) : Type 0 where
+pub record Underway (s : List ℕ) (all old : List ℕ) (c : Cursor) (Q : Pauli) (i at : ℕ) (out : List ℕ) : Type 0 where
   pub steps : List (Step Float)
   pub going : Going service s c Q steps
   pub ends : at + length (lines_from i Q steps) ≡ length all
-  pub holds : put writing (lines_from i Q steps) at out ≡ put writing all 0 old
+  pub holds : length all ≤ length old → sets out at (lines_from i Q steps) ≡ sets old 0 all
   pub kept : length out ≡ length old
-  pub room : writing ≡ true → length all ≤ length old
   pub narrow : Q.n ≤ widest_run
   pub number : i ≤ c.at
   pub small : at ≤ 128 * c.at
 
--- ---- what is put behind what was put
-
-put_length : (writing : Bool) (text : List ℕ) (at : ℕ) (out : List ℕ) → length (put writing text at out) ≡ length out
-put_length true text at out = length-sets out at text
-put_length false text at out = refl
-
-put_next : (writing : Bool) (s t : List ℕ) (at end : ℕ) (out left : List ℕ) → end ≡ at + length s → left ≡ put writing s at out
-    → put writing t end left ≡ put writing (s ++ t) at out
-put_next true s t at end out left e w = sets_next out at end s t left (sets left end t) w e refl
-put_next false s t at end out left e w = w
-
 -- ---- before the first step
 
-pub outset : (s : List ℕ) (Q : Pauli) (writing : Bool) (out : List ℕ) → OnStart service s Q → let all = frames_text (frames_of Q (run_in service s)) in
-    (writing ≡ true → length all ≤ length out) → Underway s writing all out (record { at = 4; width = Q.n }) Q 0 0 out
+pub outset : (s : List ℕ) (Q : Pauli) (out : List ℕ) → OnStart service s Q → Underway s (frames_text (frames_of Q (run_in service s))) out (record { at = 4; width = Q.n }) Q 0 0 out
 unfolding lines_from frames_text
-outset s Q writing out b room = record {
+outset s Q out b = record {
   steps = (run_in service s).steps;
   going = going_outset service s (run_in service s) Q b.read b.admitted b.width;
   ends = omega arith;
-  holds = refl;
+  holds = λ h. refl;
   kept = refl;
-  room = room;
   narrow = omega (arith, b.width, (run_allowed service s (run_in service s) b.read).width);
   number = omega arith;
   small = omega arith;
 }
 
-module _ {s : List ℕ} {writing : Bool} {all old : List ℕ} {c : Cursor} {Q : Pauli} {i at : ℕ} {out : List ℕ} (w : Underway s writing all old c Q i at out) where
+module _ {s all old : List ℕ} {c : Cursor} {Q : Pauli} {i at : ℕ} {out : List ℕ} (w : Underway s all old c Q i at out) where
   -- the cursor is in the run, which is short
   pub at_most : c.at ≤ most_bytes
   at_most = omega (arith, w.going.left.inside, w.going.left.short)
@@ -97,19 +78,18 @@ module _ {s : List ℕ} {writing : Bool} {all old : List ℕ} {c : Cursor} {Q : 
     size : length (lines_from i Q w.steps) ≡ length line + length rest
     size = ap length lines_are ∙ length-append line rest
 
-    pub line_fits : writing ≡ true → at + length line ≤ length out
-    line_fits e = omega (arith, w.room e, w.ends, size, w.kept)
+    line_fits : length all ≤ length old → at + length line ≤ length out
+    line_fits h = omega (arith, h, w.ends, size, w.kept)
 
-    pub turn : {Q' : Pauli} {end : ℕ} {left : List ℕ} → Q' ≡ passed Q t → length line ≤ 128 → PutIf writing line at out end left → Underway s writing all old d Q' (i + 1) end left
+    pub turn : {Q' : Pauli} {end : ℕ} {left : List ℕ} → Q' ≡ passed Q t → length line ≤ 128 → PutFitting line at out end left → Underway s all old d Q' (i + 1) end left
     turn {Q'} {end} {left} passes short p = rw (passes, add-one i) (record {
       steps = g.after;
       going = g.going;
       ends = omega (arith, p.ends, size, w.ends);
-      holds =
-          put_next writing line rest at end out left p.ends p.holds
-          ∙ ap (λ (l : List ℕ). put writing l at out) (sym lines_are) ∙ w.holds;
-      kept = ap length p.holds ∙ put_length writing line at out ∙ w.kept;
-      room = w.room;
+      holds = λ h.
+          sets_next out at end line rest left (sets left end rest) (p.holds (line_fits h)) p.ends refl
+          ∙ ap (sets out at) (sym lines_are) ∙ w.holds h;
+      kept = p.kept ∙ w.kept;
       narrow = omega (arith, g.going.width, g.read.within);
       number = omega (arith, w.number, g.read.next, size_ge t);
       small = omega (arith, w.small, p.ends, short, g.read.next, size_ge t);
@@ -124,11 +104,12 @@ module _ {s : List ℕ} {writing : Bool} {all old : List ℕ} {c : Cursor} {Q : 
     unfolding lines_from step_lines framed_steps end_pauli
     end_is = rw none
 
-    pub end_fits : writing ≡ true → at + length (end_line Q) ≤ length out
-    end_fits e = omega (arith, w.room e, w.ends, ap length end_is, w.kept)
+    end_fits : length all ≤ length old → at + length (end_line Q) ≤ length out
+    end_fits h = omega (arith, h, w.ends, ap length end_is, w.kept)
 
-    pub over : {end : ℕ} {left : List ℕ} → PutIf writing (end_line Q) at out end left → PutIf writing all 0 old end left
+    pub over : {end : ℕ} {left : List ℕ} → PutFitting (end_line Q) at out end left → PutFitting all 0 old end left
     over p = record {
       ends = omega (arith, p.ends, w.ends, ap length end_is);
-      holds = p.holds ∙ ap (λ (l : List ℕ). put writing l at out) (sym end_is) ∙ w.holds;
+      holds = λ h. p.holds (end_fits (omega (arith, h))) ∙ ap (sets out at) (sym end_is) ∙ w.holds (omega (arith, h));
+      kept = p.kept ∙ w.kept;
     }

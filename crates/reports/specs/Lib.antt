@@ -1,12 +1,12 @@
 pub mod Text
 pub mod Narrow
 pub mod NarrowRun
-pub mod Stored
 pub mod Lengths
 pub mod Input
 pub mod Found
 pub mod Put
 pub mod Listing
+pub mod Refused
 pub mod Examples
 pub mod EachLine
 pub mod Narrowed

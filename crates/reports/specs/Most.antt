@@ -10,8 +10,9 @@ use Rattle.answers.specs.Answer.Answer.{accepted, refused, refused_at}
 use Rattle.answers.specs.Row.{answered, accepted_row, refused_accepted, refused_at_accepted}
 use Rattle.paulilaws.specs.Pauli.{Pauli}
 use Rattle.paulitext.specs.Calls.{read_call}
-use Rattle.paulitext.specs.declared.TextAnswer.{TextAnswer}
-use Rattle.paulitext.specs.declared.TextAnswer.TheVariants as text
+use Rattle.std.specs.Prelude.{Result}
+use Rattle.refusals.specs.declared.Row.{Row}
+use Rattle.std.specs.Prelude.{Ok}
 use Rattle.amplitudelaws.specs.Step.{Step, width_after}
 use Rattle.amplitudelaws.specs.Step.Step.{rotation, promotion, projection, correction, quarter_turn}
 use Rattle.framelaws.specs.Caller.{Caller, service}
@@ -173,5 +174,5 @@ report_most input =
 
 -- ---- so writing it there is not refused
 
-pub report_fits : (input out : List ℕ) (r : TextAnswer) (left : List ℕ) → most_text ≤ length out → Lined (report_listed input) out r left → r ≡ text.Length (length (report_listed input))
+pub report_fits : (input out : List ℕ) (r : Result ℕ Row) (left : List ℕ) → most_text ≤ length out → Lined (report_listed input) out r left → r ≡ Ok (length (report_listed input))
 report_fits input out r left h l = (lined_fits (report_listed input) out r left (omega (arith, h, report_most input)) l).0

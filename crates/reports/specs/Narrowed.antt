@@ -1,17 +1,15 @@
--- A Pauli with masks of one word: a run is on so few qubits that nothing else is listed of it. And what is read from a text fits.
+-- Of a Pauli with masks of one word nothing else is listed: a run is on so few qubits. And what is read from a text fits.
 use Rattle.std.specs.Prelude.{◌≡◌, Bool, true, false, not, List, [], ◌∷◌, ltb, eqb, length}
 use Rattle.std.proofs.Math.Path.{refl, ap}
-use Rattle.std.proofs.Common.{subst, mod-eq_of_lt, arith}
+use Rattle.std.proofs.Common.{subst, arith}
 use Rattle.std.proofs.Math.Option.{Option, none, some}
-use Prim.Native.Nat.{ℕ, zero, suc, ◌+◌, ◌%◌, ◌^◌, ◌≤◌}
-use Rattle.std.proofs.Math.Nat.{mod-le}
+use Prim.Native.Nat.{ℕ, zero, suc, ◌+◌, ◌≤◌}
 use Rattle.std.proofs.Math.ListN.{get_elem?}
-use Rattle.std.proofs.Math.Pow.{pow_mono}
-use borrow.Author.Tests.{lt-ltb}
+use Rattle.activepauli.specs.Narrowed.{narrowed, narrowed_small, narrowed_fits}
 use Rattle.answers.specs.Answer.{Answer, refuse}
 use Rattle.answers.specs.Answer.Answer.{accepted, refused, refused_at}
 use Rattle.answers.specs.Row.{row, answered, refused_accepted, refused_at_accepted, accepted_same}
-use Rattle.paulilaws.specs.Pauli.{Pauli, fits, identity, most_qubits, same}
+use Rattle.paulilaws.specs.Pauli.{Pauli, identity, most_qubits}
 use Rattle.paulilaws.specs.Fitting.{Fitting, identity_fitting, letter_fitting}
 use Rattle.paulilaws.specs.Letter.{Letter, with_letter}
 use Rattle.paulitext.specs.Calls.{read_call}
@@ -26,31 +24,10 @@ use Rattle.reports.specs.Listing.{frames_text, answer_text, step_listed, steps_l
 use Rattle.reports.specs.Input.{after, number}
 use Rattle.reports.specs.Text.{step_line}
 
-unfoldable pub narrowed : Pauli → Pauli
-narrowed Q = record { n = Q.n; k = Q.k; x = Q.x % 2 ^ 64; z = Q.z % 2 ^ 64 }
-
 module _ (Q : Pauli) (f : Fitting Q) where
-  -- on no more qubits than a word has bits it is the same
-  narrowed_small : Q.n ≤ 64 → narrowed Q ≡ Q
-  unfolding narrowed
-  narrowed_small h =
-      let word : 2 ^ Q.n ≤ 2 ^ 64 = pow_mono {i = Q.n} {j = 64} h in
-      same refl refl (mod-eq_of_lt (omega (arith, f.xs, word))) (mod-eq_of_lt (omega (arith, f.zs, word)))
-
-  narrowed_fits : fits (narrowed Q) ≡ fits Q
-  unfolding narrowed fits
-  narrowed_fits =
-      let most : ℕ = 2 ^ Q.n in
-      rw (
-        lt-ltb Q.x most f.xs,
-        lt-ltb Q.z most f.zs,
-        lt-ltb (Q.x % 2 ^ 64) most (omega (arith, mod-le Q.x (2 ^ 64), f.xs)),
-        lt-ltb (Q.z % 2 ^ 64) most (omega (arith, mod-le Q.z (2 ^ 64), f.zs)),
-      )
-
   narrowed_row : (n : ℕ) → placed_row (narrowed Q) n ≡ placed_row Q n
   unfolding narrowed placed_row
-  narrowed_row n = ap (λ (t : Bool). row (not t) 3 (row (not (eqb Q.n n)) 4 0)) narrowed_fits
+  narrowed_row n = ap (λ (t : Bool). row (not t) 3 (row (not (eqb Q.n n)) 4 0)) (narrowed_fits Q f)
 
   -- where no row refuses, it is on the run's qubits, which are few
   frames_narrowed : (s : List ℕ) (R : Run) → run_of service s ≡ accepted R
@@ -62,7 +39,7 @@ module _ (Q : Pauli) (f : Fitting Q) where
           → answered (placed_row (narrowed Q) R.width) (frames_of (narrowed Q) R) ≡ answered (placed_row Q R.width) (frames_of Q R)
       by zero e =
           let few = (run_allowed service s R read).width in
-          ap (λ (P : Pauli). answered (placed_row P R.width) (frames_of P R)) (narrowed_small (omega (arith, few, (placed_passed Q R.width e).1)))
+          ap (λ (P : Pauli). answered (placed_row P R.width) (frames_of P R)) (narrowed_small Q f (omega (arith, few, (placed_passed Q R.width e).1)))
       by (suc r) e = rw (narrowed_row R.width, e)
 
   framing_narrowed : (s : List ℕ) → framing service s (narrowed Q) ≡ framing service s Q

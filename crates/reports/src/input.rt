@@ -6,40 +6,28 @@ ghost use Rattle.reports.specs.Input.{number as input_number};
 // No run has a step of this number. A larger one is taken for it, and so is what is no number.
 const NO_STEP: usize = 65536;
 
-fn is_digit(byte: u8) -> bool
-    ensures { result ≡ is_digit byte }
-{
-    (b'0' <= byte) & (byte <= b'9')
-}
-
 // A digit behind a number.
+#[tactic(auto, unfolding(crate::specs::Input::is_digit, crate::specs::Input::grown))]
 fn grow(value: usize, digit: u8) -> usize
     requires { (value ≤ no_step) × (is_digit digit ≡ true) }
     ensures { (result ≡ grown value digit) × (result ≤ no_step) }
 {
-    let next = 10 * value + (digit - b'0') as usize;
-    if NO_STEP < next {
-        return NO_STEP;
-    }
-    next
+    (10 * value + usize::from(digit - b'0')).min(NO_STEP)
 }
 
 // The number whose decimal digits the text is.
 pub(crate) fn number(text: &[u8]) -> usize
     ensures { result ≡ input_number text.now }
 {
-    if text.len() == 0 {
+    if text.is_empty() {
         return NO_STEP;
     }
     let mut value = 0;
-    let mut i = 0;
-    while i < text.len() {
-        let byte = text[i];
-        if !is_digit(byte) {
+    for &byte in text {
+        if !byte.is_ascii_digit() {
             return NO_STEP;
         }
         value = grow(value, byte);
-        i += 1;
     }
     value
 }

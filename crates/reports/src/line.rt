@@ -1,18 +1,20 @@
 // The lines, each put into a lent buffer at a place: the answer is where the line ends.
-ghost use Rattle.std.specs.Prelude.{◌+◌, ◌≤◌, Float, length};
+ghost use Rattle.std.specs.Prelude.{◌+◌, ◌≤◌, length};
 ghost use Rattle.activepauli.specs.Active.{active_of};
 ghost use Rattle.framelaws.specs.Caller.{widest_run};
-ghost use Rattle.framelaws.specs.Reporting.{Framed};
-ghost use Rattle.framelaws.specs.Reporting.Report.{flagged};
-ghost use Rattle.reporter.specs.Meaning.{report_fields_of};
+ghost use Rattle.refusals.specs.Refusal.{number_of};
+ghost use Rattle.reporter.specs.Meaning.{flag_of, told_of, framed_of};
 ghost use Rattle.steps.specs.Meaning.{step_of};
 ghost use Rattle.reports.specs.Narrow.{NarrowPauli, NarrowStep};
-ghost use Rattle.reports.specs.Stored.{Stored};
+ghost use Rattle.reports.specs.NarrowRun.{NarrowFramed};
+ghost use Rattle.lines.specs.Stored.{Stored};
 ghost use Rattle.reports.specs.Text.{qubits_text, flag_text, kind_text, step_text, step_line, end_line, refusal_at_line};
 
-use crate::pieces::{put, put_named, put_numbered, put_qubits};
+use crate::pieces::{put_named, put_numbered, put_qubits};
 use activepauli::ActivePauli;
-use reporter::Report;
+use lines::put;
+use refusals::RowAt;
+use reporter::{Flag, Framed};
 use steps::Step;
 
 // What kind of step it is, and its Pauli.
@@ -42,26 +44,26 @@ fn put_mask(mask: u64, width: usize, at: usize, out: &mut [u8]) -> usize
 }
 
 // Whether the sign or the branch is changed, and the qubits that are the cause.
-fn put_flagged(changed: bool, mask: u64, width: usize, at: usize, out: &mut [u8]) -> usize
+fn put_flagged(flag: Flag, width: usize, at: usize, out: &mut [u8]) -> usize
     requires { (width ≤ widest_run) × (at + 51 ≤ length out.old) }
-    ensures { Stored (flag_text width (flagged changed mask)) at out.old result out.new }
+    ensures { Stored (flag_text width (flag_of flag)) at out.old result out.new }
 {
-    if changed {
+    if flag.changed {
         let end = put(b" changed", at, out);
-        return put_mask(mask, width, end, out);
+        return put_mask(flag.mask, width, end, out);
     }
     let end = put(b" kept", at, out);
-    put_mask(mask, width, end, out)
+    put_mask(flag.mask, width, end, out)
 }
 
 // The same, or that there is no flag.
-pub(crate) fn put_flag(report: Report, width: usize, at: usize, out: &mut [u8]) -> usize
+pub(crate) fn put_flag(flag: Option<Flag>, width: usize, at: usize, out: &mut [u8]) -> usize
     requires { (width ≤ widest_run) × (at + 51 ≤ length out.old) }
-    ensures { Stored (flag_text width (report_fields_of report)) at out.old result out.new }
+    ensures { Stored (flag_text width (told_of flag)) at out.old result out.new }
 {
-    match report {
-        Report::NoFlag => put(b" no flag", at, out),
-        Report::Flagged(changed, mask) => put_flagged(changed, mask, width, at, out),
+    match flag {
+        Some(flag) => put_flagged(flag, width, at, out),
+        None => put(b" no flag", at, out),
     }
 }
 
@@ -76,21 +78,14 @@ fn put_label(number: usize, step: Step, at: usize, out: &mut [u8]) -> usize
 }
 
 // A step, and the frame before it.
-pub(crate) fn put_step(
-    number: usize,
-    frame: ActivePauli,
-    step: Step,
-    at: usize,
-    out: &mut [u8],
-) -> usize
-    requires { NarrowPauli (active_of frame) × NarrowStep (step_of step) × (at + 128 ≤ length out.old) }
-    ensures { let f : Framed Float = record { frame = active_of frame; step = step_of step } in
-        Stored (step_line number f) at out.old result out.new }
+pub(crate) fn put_step(number: usize, framed: Framed, at: usize, out: &mut [u8]) -> usize
+    requires { NarrowFramed (framed_of framed) × (at + 128 ≤ length out.old) }
+    ensures { Stored (step_line number (framed_of framed)) at out.old result out.new }
 {
-    let report = reporter::report_of(frame, step);
-    let first = put_label(number, step, at, out);
-    let second = put_named(b" frame ", frame, first, out);
-    let last = put_flag(report, frame.nqubits, second, out);
+    let flag = reporter::report_of(framed.frame, framed.step);
+    let first = put_label(number, framed.step, at, out);
+    let second = put_named(b" frame ", framed.frame, first, out);
+    let last = put_flag(flag, framed.frame.nqubits, second, out);
     put(b"\n", last, out)
 }
 
@@ -104,11 +99,12 @@ pub(crate) fn put_end(pauli: ActivePauli, at: usize, out: &mut [u8]) -> usize
 }
 
 // A refusal with its place.
-pub(crate) fn put_refused_at(row: u8, place: usize, at: usize, out: &mut [u8]) -> usize
+pub(crate) fn put_refused_at(row_at: RowAt, at: usize, out: &mut [u8]) -> usize
     requires { at + 36 ≤ length out.old }
-    ensures { Stored (refusal_at_line row place) at out.old result out.new }
+    ensures { Stored (refusal_at_line (number_of row_at.row) row_at.at) at out.old result out.new }
 {
-    let first = put_numbered(b"refused ", row as u64, at, out);
-    let second = put_numbered(b" at ", place as u64, first, out);
+    let number = u8::from(row_at.row);
+    let first = put_numbered(b"refused ", u64::from(number), at, out);
+    let second = put_numbered(b" at ", row_at.at as u64, first, out);
     put(b"\n", second, out)
 }

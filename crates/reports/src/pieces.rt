@@ -1,55 +1,23 @@
 // Pieces of a line, each put into a lent buffer at a place: the answer is where the piece ends.
-ghost use Rattle.std.specs.Prelude.{◌≡◌, ◌++◌, ◌+◌, ◌*◌, ◌≤◌, ◌<◌, length};
+ghost use Rattle.std.specs.Prelude.{◌++◌, ◌+◌, ◌*◌, ◌≤◌, ◌<◌, length};
 ghost use Rattle.activepauli.specs.Active.{active_of};
 ghost use Rattle.framelaws.specs.Caller.{widest_run};
 ghost use Rattle.lines.specs.Lines.{decimal};
-ghost use Rattle.paulis.specs.Strings.{pauli_of};
 ghost use Rattle.paulitext.specs.Text.{shown};
 ghost use Rattle.reports.specs.Narrow.{NarrowPauli};
-ghost use Rattle.reports.specs.Stored.{Stored};
+ghost use Rattle.lines.specs.Stored.{Stored};
 ghost use Rattle.reports.specs.Text.{qubit_text, qubits_from};
 
 use activepauli::ActivePauli;
 use paulis::PauliString;
-use paulitext::TextAnswer;
-
-// A text.
-pub(crate) fn put(text: &[u8], at: usize, out: &mut [u8]) -> usize
-    requires { at + length text.now ≤ length out.old }
-    ensures { Stored text.now at out.old result out.new }
-{
-    at + octets::copy(text, &mut out[at..])
-}
-
-// A number in decimal.
-pub(crate) fn put_number(n: u64, at: usize, out: &mut [u8]) -> usize
-    requires { at + length (decimal n) ≤ length out.old }
-    ensures { Stored (decimal n) at out.old result out.new }
-{
-    let mut digits = [0u8; 20];
-    let count = io::decimal(n, &mut digits);
-    put(&digits[..count], at, out)
-}
 
 // A text and behind it a number.
 pub(crate) fn put_numbered(label: &[u8], n: u64, at: usize, out: &mut [u8]) -> usize
     requires { at + length label.now + length (decimal n) ≤ length out.old }
     ensures { Stored (label.now ++ decimal n) at out.old result out.new }
 {
-    let end = put(label, at, out);
-    put_number(n, end, out)
-}
-
-// The Pauli with four words a mask.
-fn wide(pauli: ActivePauli) -> PauliString
-    ensures { pauli_of result ≡ active_of pauli }
-{
-    PauliString {
-        nqubits: pauli.nqubits,
-        x: [pauli.x, 0, 0, 0],
-        z: [pauli.z, 0, 0, 0],
-        phase: pauli.phase,
-    }
+    let end = lines::put(label, at, out);
+    lines::put_number(n, end, out)
 }
 
 // A Pauli.
@@ -57,12 +25,7 @@ pub(crate) fn put_pauli(pauli: ActivePauli, at: usize, out: &mut [u8]) -> usize
     requires { NarrowPauli (active_of pauli) × (at + 15 ≤ length out.old) }
     ensures { Stored (shown (active_of pauli)) at out.old result out.new }
 {
-    let answer = paulitext::display(wide(pauli), &mut out[at..]);
-    let TextAnswer::Length(n) = answer else {
-        // Never: it is a Pauli, and its text fits.
-        return at;
-    };
-    at + n
+    at + paulitext::display(PauliString::from(pauli), &mut out[at..]).unwrap()
 }
 
 // A text and behind it a Pauli.
@@ -70,7 +33,7 @@ pub(crate) fn put_named(label: &[u8], pauli: ActivePauli, at: usize, out: &mut [
     requires { NarrowPauli (active_of pauli) × (at + length label.now + 15 ≤ length out.old) }
     ensures { Stored (label.now ++ shown (active_of pauli)) at out.old result out.new }
 {
-    let end = put(label, at, out);
+    let end = lines::put(label, at, out);
     put_pauli(pauli, end, out)
 }
 
@@ -91,10 +54,8 @@ pub(crate) fn put_qubits(mask: u64, width: usize, at: usize, out: &mut [u8]) -> 
     ensures { Stored (qubits_from 0 width mask) at out.old result out.new }
 {
     let mut end = at;
-    let mut q = 0;
-    while q < width {
+    for q in 0..width {
         end = put_qubit(mask, q, end, out);
-        q += 1;
     }
     end
 }

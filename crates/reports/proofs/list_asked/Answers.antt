@@ -1,7 +1,6 @@
 -- `list_asked`: the byte 32 that is found in the line decides what is listed.
 use Rattle.activepauli.specs.Active.{active_of}
 use Rattle.reports.proofs.Asking.{written, one_asked, all_asked}
-use borrow.Author.Rules.{rules}
 use Rattle.reports.proofs.list_asked.Goals as goal
 
 pub returns-then-space-line : goal.returns-then-space-line

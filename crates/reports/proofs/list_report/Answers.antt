@@ -2,7 +2,6 @@
 use mathlib.Core.Path.{sym}
 use lib.Seq.{length-take-le}
 use Rattle.reports.proofs.Asking.{written, input_parts}
-use borrow.Author.Rules.{rules}
 use Rattle.reports.proofs.list_report.Goals as goal
 
 pub slice_bounds-list_line-end : goal.slice_bounds-list_line-end
@@ -11,4 +10,4 @@ slice_bounds-list_line-end c = sym (length-take-le c.find-end.result c.args.inpu
 pub returns : goal.returns
 returns c =
     let a = c.args in
-    written (input_parts a.input.now c.find-end.result c.find-end.ensures.0 c.behind-from.result c.behind-from.ensures.0) c.list_line.ensures
+    written (input_parts a.input.now c.find-end.result c.find-end.ensures.0 c.min-from.result c.min-from.ensures) c.list_line.ensures

@@ -1,46 +1,42 @@
--- what the check says
-use mathlib.Core.Path.{◌≡◌, sym, ap, ◌∙◌}
-use native.Mathlib.Omega.{arith}
+-- `list_steps`: what the check and the rows say, by their cases.
+use Rattle.std.proofs.Common.{◌≡◌, sym, ap, ◌∙◌}
 use Rattle.activepauli.specs.Active.{active_of}
-use Rattle.callers.specs.Meaning.{caller_of}
+use Rattle.answers.specs.Answer.Answer.{accepted}
 use Rattle.checker.specs.Meaning.{checked_of}
+use Rattle.framelaws.specs.Caller.{Caller, service}
 use Rattle.runlaws.specs.Calls.{checking_with_start}
 use Rattle.reports.specs.Listing.{answer_text}
 use Rattle.reports.proofs.Answered.{listed, run_refused, row_refused, ready, walked}
-use borrow.Author.Rules.{rules}
 use Rattle.reports.proofs.list_steps.Goals as goal
-use Rattle.reports.proofs.list_steps.Goals.{After-check_with_start}
+use Rattle.reports.proofs.list_steps.Goals.{In-Ok}
 
-told : (c : After-check_with_start) → let a = c.args in
-    checked_of c.check_with_start.result ≡ checking_with_start (caller_of c.service.result) a.run.now
-told c = c.check_with_start.ensures
-
-pub returns-then-row-ne0 : goal.returns-then-row-ne0
-unfolding answer_text
-returns-then-row-ne0 c =
-    let a = c.args in
-    listed a.run.now (active_of a.pauli)
-    (row_refused a.run.now (active_of a.pauli) c.service.ensures (sym (told (goal.at.returns-then-row-ne0 c).After-check_with_start) ∙ ap checked_of c.in-Run.is)
-    c.placed_row-row.ensures (λ none. omega (arith, c.if-row-ne0.true))) c.refused.ensures
+checked : (c : In-Ok) → checking_with_start service c.args.run.now ≡ accepted (checked_of c.in-Ok.checked)
+checked c = ap (λ (k : Caller). checking_with_start k c.args.run.now) (sym c.limits.ensures) ∙ sym c.in-Ok.ensures
 
 pub list_frames-requires : goal.list_frames-requires
 list_frames-requires c =
     let a = c.args in
-    ready a.run.now (active_of a.pauli) c.service.ensures (sym (told (goal.at.list_frames-requires c).After-check_with_start) ∙ ap checked_of c.in-Run.is)
-    c.placed_row-row.ensures (omega (arith, c.if-row-ne0.false))
+    ready a.run.now (active_of a.pauli) (checked (goal.at.list_frames-requires c).In-Ok) c.in-Ok-placed_row.ensures
 
-pub returns-in-Refused : goal.returns-in-Refused
+pub returns-in-Ok-placed_row : goal.returns-in-Ok-placed_row
 unfolding answer_text
-returns-in-Refused c =
+returns-in-Ok-placed_row c =
     let a = c.args in
     listed a.run.now (active_of a.pauli)
-    (run_refused a.run.now (active_of a.pauli) c.service.ensures (sym (told (goal.at.returns-in-Refused c).After-check_with_start) ∙ ap checked_of c.in-Refused.is))
-    c.list_refused_at.ensures
+    (walked a.run.now (active_of a.pauli) (checked (goal.at.returns-in-Ok-placed_row c).In-Ok) c.in-Ok-placed_row.ensures) c.list_frames.ensures
 
-pub returns-else-row-ne0 : goal.returns-else-row-ne0
+pub returns-in-Err-placed_row : goal.returns-in-Err-placed_row
 unfolding answer_text
-returns-else-row-ne0 c =
+returns-in-Err-placed_row c =
     let a = c.args in
     listed a.run.now (active_of a.pauli)
-    (walked a.run.now (active_of a.pauli) c.service.ensures (sym (told (goal.at.returns-else-row-ne0 c).After-check_with_start) ∙ ap checked_of c.in-Run.is)
-    c.placed_row-row.ensures (omega (arith, c.if-row-ne0.false))) c.list_frames.ensures
+    (row_refused a.run.now (active_of a.pauli) (checked (goal.at.returns-in-Err-placed_row c).In-Ok) c.in-Err-placed_row.row c.in-Err-placed_row.ensures)
+    (rw c.from.ensures at c.refused.ensures)
+
+pub returns-in-Err : goal.returns-in-Err
+unfolding answer_text
+returns-in-Err c =
+    let a = c.args in
+    listed a.run.now (active_of a.pauli)
+    (run_refused a.run.now (active_of a.pauli)
+    (ap (λ (k : Caller). checking_with_start k a.run.now) (sym c.limits.ensures) ∙ sym c.in-Err.ensures)) c.list_refused_at.ensures

@@ -1,8 +1,7 @@
 use mathlib.Core.Path.{◌∙◌}
 use native.Mathlib.Omega.{arith}
-use Rattle.reports.specs.Stored.{copied_all}
+use Rattle.lines.specs.Stored.{copied_all}
 use Rattle.lines.specs.Pieces.{lined_short, lined_all}
-use borrow.Author.Rules.{rules}
 use Rattle.reports.proofs.whole.Goals as goal
 
 pub returns-then-out-text : goal.returns-then-out-text

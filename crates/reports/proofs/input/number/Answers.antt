@@ -1,25 +1,23 @@
--- `number`: the bytes from i on are left to read behind the value.
-use mathlib.Core.Path.{◌≡◌, refl, sym, ap, ◌∙◌}
-use mathlib.Core.Bool.{true, false}
-use mathlib.Core.List.{List, [], ◌∷◌}
-use Prim.Native.Nat.{ℕ, suc, ◌-◌, ◌≤◌, ◌<◌}
-use native.Mathlib.Numerals.{add-one}
-use native.Mathlib.Omega.{arith}
+-- `number`: the bytes from the index on are left to read behind the value.
+use Rattle.std.proofs.Common.{◌≡◌, ◌==◌, ℕ, suc, ◌≤◌, ◌<◌, Bool, true, false, not, List, [], ◌∷◌, length, get_or, drop, refl, sym, ap, ◌∙◌, arith, add-one, drop-cons, drop_of_length-le}
 use borrow.Author.Tests.{not-true, not-false}
-use lib.ListN.{length, get_or, drop, drop_of_length-le}
-use lib.Seq.{drop-cons}
+use Rattle.std.proofs.lemmas.Bool.{eqb-true, false≢true}
+use Rattle.std.specs.Char.{is_ascii_digit}
 use Rattle.reports.specs.Input.{is_digit, grown, no_step, number_from, number}
-use mathlib.Core.Bool.{not}
 use Rattle.reports.proofs.input.number.Goals as goal
 
-none : (text : List ℕ) → length text ≡ 0 → number text ≡ no_step
+digit : {t : Bool} (d : ℕ) → t ≡ is_ascii_digit d → is_digit d ≡ t
+unfolding is_digit
+digit d e = sym e
+
+none : (text : List ℕ) → true ≡ (length text == 0) → no_step ≡ number text
 unfolding number
 none [] e = refl
-none (d ∷ text) e = absurd (omega (arith, e))
+none (d ∷ text) e = absurd (omega (arith, eqb-true (length (d ∷ text)) 0 (sym e)))
 
-some : (text : List ℕ) → (length text ≡ 0 → ⊥) → number_from 0 text ≡ number text
+some : (text : List ℕ) → false ≡ (length text == 0) → number_from 0 text ≡ number text
 unfolding number
-some [] e = absurd (e refl)
+some [] e = absurd (false≢true e)
 some (d ∷ text) e = refl
 
 module _ (text : List ℕ) (i v : ℕ) where
@@ -35,41 +33,29 @@ module _ (text : List ℕ) (i v : ℕ) where
   unfolding number_from
   digits_end h = ap (number_from v) (drop_of_length-le text {i = i} h)
 
-pub returns-then-text-eq0 : goal.returns-then-text-eq0
-returns-then-text-eq0 c = sym (none c.args.text.now c.if-text-eq0.true)
+pub returns-then-is_empty : goal.returns-then-is_empty
+returns-then-is_empty c = none _ c.if-is_empty.ensures
 
-pub loop-i-init : goal.loop-i-init
-loop-i-init c = (omega arith, omega arith, some c.args.text.now c.if-text-eq0.false)
+pub loop-byte-init : goal.loop-byte-init
+loop-byte-init c = (omega arith, some _ c.if-is_empty.ensures)
 
-pub bounds-text-i : goal.bounds-text-i
-bounds-text-i c = omega arith
-
-pub is_digit-requires : goal.is_digit-requires
-is_digit-requires c = tt
-
-pub returns-then-not-is_digit : goal.returns-then-not-is_digit
-returns-then-not-is_digit c =
-    let at = c.loop-i in
+pub returns-then-not-is_ascii_digit : goal.returns-then-not-is_ascii_digit
+returns-then-not-is_ascii_digit c =
+    let at = c.loop-byte in
     let text = c.args.text.now in
-    sym (digit_none text at.i at.value c.loop-i-test.true (sym c.is_digit.ensures ∙ not-true _ (ap not c.if-not-is_digit.true))) ∙ at.invariant.2
+    sym (digit_none text at.byte-index at.value c.loop-byte-test.true (digit _ c.is_ascii_digit.ensures.value ∙ not-true _ (ap not c.if-not-is_ascii_digit.true))) ∙ at.invariant.1
 
 pub grow-value-requires : goal.grow-value-requires
-grow-value-requires c = (c.loop-i.invariant.1, sym c.is_digit.ensures ∙ not-false _ (ap not c.if-not-is_digit.false))
+grow-value-requires c = (c.loop-byte.invariant.0, digit _ c.is_ascii_digit.ensures.value ∙ not-false _ (ap not c.if-not-is_ascii_digit.false))
 
-pub overflow_add-i : goal.overflow_add-i
-overflow_add-i c = omega arith
-
-pub loop-i-smaller : goal.loop-i-smaller
-loop-i-smaller c = omega arith
-
-pub loop-i-preserved : goal.loop-i-preserved
-loop-i-preserved c =
-    let at = c.loop-i in
+pub loop-byte-preserved : goal.loop-byte-preserved
+loop-byte-preserved c =
+    let at = c.loop-byte in
     let text = c.args.text.now in
-    let next = digit_next text at.i at.value c.loop-i-test.true (sym c.is_digit.ensures ∙ not-false _ (ap not c.if-not-is_digit.false)) in
-    (omega arith, c.grow-value.ensures.1, rw (add-one at.i) (ap (λ (v : ℕ). number_from v (drop (suc at.i) text)) c.grow-value.ensures.0 ∙ sym next ∙ at.invariant.2))
+    let next = digit_next text at.byte-index at.value c.loop-byte-test.true (digit _ c.is_ascii_digit.ensures.value ∙ not-false _ (ap not c.if-not-is_ascii_digit.false)) in
+    (c.grow-value.ensures.1, rw (add-one at.byte-index) (ap (λ (v : ℕ). number_from v (drop (suc at.byte-index) text)) c.grow-value.ensures.0 ∙ sym next ∙ at.invariant.1))
 
 pub returns : goal.returns
 returns c =
-    let at = c.loop-i in
-    sym (digits_end c.args.text.now at.i at.value c.loop-i-test.false) ∙ at.invariant.2
+    let at = c.loop-byte in
+    sym (digits_end c.args.text.now at.byte-index at.value c.loop-byte-test.false) ∙ at.invariant.1

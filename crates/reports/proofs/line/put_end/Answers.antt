@@ -2,9 +2,8 @@
 use native.Mathlib.Omega.{arith}
 use Rattle.activepauli.specs.Active.{active_of}
 use Rattle.reports.specs.Lengths.{narrow_most}
-use Rattle.reports.specs.Stored.{stored_next}
+use Rattle.lines.specs.Stored.{stored_next}
 use Rattle.reports.specs.Text.{frame_text, end_line}
-use borrow.Author.Rules.{rules}
 use Rattle.reports.proofs.line.put_end.Goals as goal
 
 pub put-requires : goal.put-requires

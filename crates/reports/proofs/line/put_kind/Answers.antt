@@ -7,9 +7,8 @@ use native.Mathlib.Omega.{arith}
 use Rattle.steps.specs.declared.Step.{Step}
 use Rattle.steps.specs.Meaning.{step_of}
 use Rattle.reports.specs.Narrow.{NarrowStep}
-use Rattle.reports.specs.Stored.{Stored}
+use Rattle.lines.specs.Stored.{Stored}
 use Rattle.reports.specs.Text.{kind_text}
-use borrow.Author.Rules.{rules}
 use Rattle.reports.proofs.line.put_kind.Goals as goal
 
 narrow : {t u : Step} → t ≡ u → NarrowStep (step_of t) → NarrowStep (step_of u)

@@ -1,9 +1,8 @@
 -- `put_label`: the kind behind the number.
 use native.Mathlib.Omega.{arith}
 use Rattle.reports.specs.Lengths.{word_digits}
-use Rattle.reports.specs.Stored.{stored_next}
+use Rattle.lines.specs.Stored.{stored_next}
 use Rattle.reports.specs.Text.{step_text}
-use borrow.Author.Rules.{rules}
 use Rattle.reports.proofs.line.put_label.Goals as goal
 
 pub put_numbered-first-requires : goal.put_numbered-first-requires

@@ -3,9 +3,8 @@ use mathlib.Core.Path.{◌≡◌, sym, subst}
 use mathlib.Core.List.{List, [], ◌∷◌}
 use Prim.Native.Nat.{ℕ}
 use borrow.Author.Tests.{eq-eqb, ne_eqb}
-use Rattle.reports.specs.Stored.{Stored, stored_none, stored_next}
+use Rattle.lines.specs.Stored.{Stored, stored_none, stored_next}
 use Rattle.reports.specs.Text.{qubits_from, qubits_text}
-use borrow.Author.Rules.{rules}
 use Rattle.reports.proofs.line.put_mask.Goals as goal
 
 module _ (n mask : ℕ) where

@@ -1,46 +1,44 @@
 -- `put_step`: the four pieces have at most 54 + 22 + 51 + 1 bytes.
-use mathlib.Core.Path.{subst}
-use native.Mathlib.Omega.{arith}
+use Rattle.std.proofs.Common.{subst, arith}
 use Rattle.activepauli.specs.Active.{active_of}
 use Rattle.framelaws.specs.Reporting.{Report}
-use Rattle.reporter.specs.Meaning.{report_fields_of}
+use Rattle.lines.specs.Stored.{Stored, stored_next}
+use Rattle.reporter.specs.Meaning.{told_of}
 use Rattle.steps.specs.Meaning.{step_of}
 use Rattle.reports.specs.Lengths.{narrow_most, flag_most, text_most}
-use Rattle.reports.specs.Stored.{Stored, stored_next}
 use Rattle.reports.specs.Text.{flag_text, frame_text, step_line}
-use borrow.Author.Rules.{rules}
 use Rattle.reports.proofs.line.put_step.Goals as goal
 
 pub put_named-second-requires : goal.put_named-second-requires
 put_named-second-requires c =
-    (c.requires.0, omega (arith, c.requires.2, c.put_label-first.ensures.ends, text_most c.args.number (step_of c.args.step) c.ranges.number.fits c.requires.1))
+    (c.requires.0.frame, omega (arith, c.requires.1, c.put_label-first.ensures.ends, text_most c.args.number (step_of c.args.framed.step) c.ranges.number.fits c.requires.0.step))
 
 pub put_flag-last-requires : goal.put_flag-last-requires
 put_flag-last-requires c =
-    let P = active_of c.args.frame in (
-      c.requires.0.narrow,
+    let P = active_of c.args.framed.frame in (
+      c.requires.0.frame.narrow,
       omega (
         arith,
-        c.requires.2,
+        c.requires.1,
         c.put_named-second.ensures.ends,
         c.put_label-first.ensures.ends,
-        narrow_most P c.requires.0.narrow,
-        text_most c.args.number (step_of c.args.step) c.ranges.number.fits c.requires.1,
+        narrow_most P c.requires.0.frame.narrow,
+        text_most c.args.number (step_of c.args.framed.step) c.ranges.number.fits c.requires.0.step,
       ),
     )
 
 pub put-requires : goal.put-requires
 put-requires c =
-    let P = active_of c.args.frame in
+    let P = active_of c.args.framed.frame in
     omega (
       arith,
-      c.requires.2,
+      c.requires.1,
       c.put_flag-last.ensures.ends,
       c.put_named-second.ensures.ends,
       c.put_label-first.ensures.ends,
-      flag_most P.n c.requires.0.narrow (report_fields_of c.report_of-report.result),
-      narrow_most P c.requires.0.narrow,
-      text_most c.args.number (step_of c.args.step) c.ranges.number.fits c.requires.1,
+      flag_most P.n c.requires.0.frame.narrow (told_of c.report_of-flag.result),
+      narrow_most P c.requires.0.frame.narrow,
+      text_most c.args.number (step_of c.args.framed.step) c.ranges.number.fits c.requires.0.step,
     )
 
 pub returns : goal.returns
@@ -48,6 +46,6 @@ unfolding step_line frame_text
 returns c =
     let named = c.put_named-second in
     let flag = c.put_flag-last in
-    let told = subst (λ (r : Report). Stored (flag_text c.args.frame.nqubits r) named.result named.new.out flag.result flag.new.out)
-    c.report_of-report.ensures flag.ensures in
+    let told = subst (λ (r : Report). Stored (flag_text c.args.framed.frame.nqubits r) named.result named.new.out flag.result flag.new.out)
+    c.report_of-flag.ensures flag.ensures in
     stored_next c.put_label-first.ensures (stored_next named.ensures (stored_next told c.put.ensures))

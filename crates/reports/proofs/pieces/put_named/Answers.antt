@@ -1,6 +1,5 @@
 -- `put_named`: one behind the other.
-use Rattle.reports.specs.Stored.{stored_next}
-use borrow.Author.Rules.{rules}
+use Rattle.lines.specs.Stored.{stored_next}
 use Rattle.reports.proofs.pieces.put_named.Goals as goal
 
 pub returns : goal.returns

@@ -1,41 +1,33 @@
 -- `put_pauli`: the text is written to the start of what stands from `at` on, where it fits and is not refused.
 -- the answer is the text's length, and the text stands in the buffer
-use mathlib.Core.Path.{◌≡◌, ap}
-use mathlib.Core.List.{List, ◌++◌}
-use Prim.Native.Nat.{ℕ, ◌+◌, ◌-◌, ◌≤◌}
-use native.Mathlib.Omega.{arith}
-use lib.ListN.{length, take, drop}
-use lib.Seq.{sets}
+use Rattle.std.proofs.Common.{◌≡◌, ℕ, ◌+◌, ◌-◌, ◌++◌, length, take, drop, refl, ap, arith}
+use Rattle.std.specs.Prelude.{Ok}
+use Rattle.std.proofs.lemmas.List.Edits.{sets}
 use Rattle.activepauli.specs.Active.{active_of}
-use Rattle.lines.specs.Pieces.{length_same, length_refused}
-use Rattle.paulilaws.specs.Pauli.{Pauli}
-use Rattle.paulitext.specs.Calls.{Shown}
+use Rattle.lines.specs.Pieces.{length_same}
 use Rattle.paulitext.specs.Text.{shown}
-use Rattle.paulitext.specs.declared.TextAnswer.{TextAnswer}
-use Rattle.paulitext.specs.declared.TextAnswer.TheVariants as text
 use Rattle.reports.specs.Lengths.{narrow_most}
-use Rattle.reports.specs.Narrow.{NarrowPauli}
 use Rattle.reports.proofs.Showing.{shown_at}
-use borrow.Author.Rules.{rules}
 use Rattle.reports.proofs.pieces.put_pauli.Goals as goal
+use Rattle.reports.proofs.pieces.put_pauli.Goals.{After-display}
 
-module _ (P : Pauli) (at : ℕ) (out : List ℕ) (p : NarrowPauli P) (h : at + 15 ≤ length out) where
-  written : (W : Pauli) → W ≡ P → (r : TextAnswer) (left : List ℕ) → Shown W (take (length out - at) (drop at out)) r left
-      → (r ≡ text.Length (length (shown P))) × (take at out ++ (left ++ drop (length out - at) (drop at out)) ≡ sets out at (shown P))
-  written W e r left = shown_at P out at W r left e p.admitted (omega (arith, h, narrow_most P p.narrow))
+written : (c : After-display) → let P = active_of c.args.pauli in
+    let out = c.args.out.now in
+    (c.display.result ≡ Ok (length (shown P)))
+    × (take c.args.at out ++ (c.display.new.out ++ drop (length out - c.args.at) (drop c.args.at out)) ≡ sets out c.args.at (shown P))
+written c =
+    let P = active_of c.args.pauli in
+    shown_at P c.args.out.now c.args.at _ _ _ c.from.ensures c.requires.0.admitted (omega (arith, c.requires.1, narrow_most P c.requires.0.narrow)) c.display.ensures
 
-pub returns-in_default : goal.returns-in_default
-returns-in_default c =
-    let done = written (active_of c.args.pauli) c.args.at c.args.out.now c.requires.0 c.requires.1 _ c.wide.ensures _ _ c.display-answer.ensures in
-    absurd (length_refused done.0 c.in_default.is)
+pub unwrap-requires : goal.unwrap-requires
+unwrap-requires c = rw (written (goal.at.unwrap-requires c).After-display).0 refl
 
 pub overflow_add-result : goal.overflow_add-result
 overflow_add-result c =
     let P = active_of c.args.pauli in
-    let done = written P c.args.at c.args.out.now c.requires.0 c.requires.1 _ c.wide.ensures _ _ c.display-answer.ensures in
-    record { fits = omega (arith, c.requires.1, length_same done.0 c.in-Length.is, narrow_most P c.requires.0.narrow) }
+    omega (arith, c.requires.1, length_same (written (goal.at.overflow_add-result c).After-display).0 c.unwrap.ensures, narrow_most P c.requires.0.narrow)
 
 pub returns : goal.returns
 returns c =
-    let done = written (active_of c.args.pauli) c.args.at c.args.out.now c.requires.0 c.requires.1 _ c.wide.ensures _ _ c.display-answer.ensures in
-    record { ends = ap (λ (n : ℕ). c.args.at + n) (length_same done.0 c.in-Length.is); stands = done.1 }
+    let done = written (goal.at.returns c).After-display in
+    record { ends = ap (λ (n : ℕ). c.args.at + n) (length_same done.0 c.unwrap.ensures); stands = done.1 }

@@ -8,9 +8,8 @@ use lib.Dec.{eqb}
 use Rattle.bitlaws.specs.Digit.{digit}
 use Rattle.lines.specs.Lengths.{decimal_most}
 use Rattle.lines.specs.Lines.{decimal}
-use Rattle.reports.specs.Stored.{Stored, stored_none}
+use Rattle.lines.specs.Stored.{Stored, stored_none}
 use Rattle.reports.specs.Text.{qubit_text}
-use borrow.Author.Rules.{rules}
 use Rattle.reports.proofs.pieces.put_qubit.Goals as goal
 
 module _ (q mask : ℕ) where

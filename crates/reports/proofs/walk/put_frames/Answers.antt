@@ -1,60 +1,38 @@
 -- `put_frames`: what Underway says at a cursor.
--- what is read, by the service's rows
--- the walk behind the step that was read
--- the Pauli behind the step
-use mathlib.Core.Path.{◌≡◌, sym, ap, ◌∙◌}
-use Prim.Native.Nat.{◌-◌}
-use native.Mathlib.Omega.{arith}
-use lib.ListN.{length}
+use Rattle.std.proofs.Common.{◌≡◌, [], sym, ap, ◌∙◌, arith}
 use Rattle.activepauli.specs.Active.{active_of}
 use Rattle.framelaws.specs.Caller.{Caller, service}
-use Rattle.framelaws.specs.Carrying.{passed}
-use Rattle.passing.specs.Answer.{pass_answer_of}
-use Rattle.passing.specs.Accepted.{past_is, past_never}
-use Rattle.runlaws.specs.Calls.{frames_of}
+use Rattle.passing.specs.Accepted.{past_unrefused, past_is}
 use Rattle.runlaws.specs.Going.{Gone, going_step}
-use Rattle.runlaws.specs.OnStart.{run_in}
 use Rattle.runlaws.specs.Reading.{read_at}
 use Rattle.steps.proofs.Ended.{none_left}
 use Rattle.steps.specs.Meaning.{cursor_of, step_of, read_of}
 use Rattle.reports.specs.Lengths.{step_most}
-use Rattle.reports.specs.Listing.{frames_text}
-use Rattle.reports.proofs.Underway.{Underway, outset, at_most, here_narrow, line_fits, turn, end_narrow, end_fits, over}
-use borrow.Enum.Refused.{opened}
-use borrow.Author.Rules.{rules}
+use Rattle.reports.proofs.Underway.{outset, at_most, here_narrow, turn, end_narrow, over}
 use Rattle.reports.proofs.walk.put_frames.Goals as goal
-use Rattle.reports.proofs.walk.put_frames.Goals.{After-read-got, In-Past, In-Step}
+use Rattle.reports.proofs.walk.put_frames.Goals.{After-read, In-Ok-Step, in_default, in_default-2}
 
 pub loop-step-init : goal.loop-step-init
-loop-step-init c = outset _ _ _ _ c.requires.on_start c.requires.fact
+loop-step-init c = outset _ _ _ c.requires
 
-read_is : (c : After-read-got) → read_of c.read-got.result ≡ read_at service c.args.run.now (cursor_of c.loop-step.cursor)
-read_is c =
-    c.read-got.ensures ∙ ap (λ (k : Caller). read_at k c.args.run.now (cursor_of c.loop-step.cursor)) c.service.ensures
+-- what is read, by the service's rows
+read_is : (c : After-read) → read_of c.read.result ≡ read_at service c.args.run.now (cursor_of c.loop-step.cursor)
+read_is c = c.read.ensures ∙ ap (λ (k : Caller). read_at k c.args.run.now (cursor_of c.loop-step.cursor)) c.limits-limits.ensures
 
-gone : (c : In-Step) → let t = step_of c.in-Step.step in
-    let next = cursor_of c.in-Step.next in
-    Gone service c.args.run.now (cursor_of c.loop-step.cursor) (active_of c.loop-step.held) c.loop-step.invariant.steps t next
+-- the walk behind the step that was read
+gone : (c : In-Ok-Step) → let t = step_of c.in-Ok-Step.step in
+    Gone service c.args.run.now (cursor_of c.loop-step.cursor) (active_of c.loop-step.frame) c.loop-step.invariant.steps t (cursor_of c.in-Ok-Step.next)
 gone c =
-    going_step c.loop-step.invariant.going _ _ (sym (c.read-got.ensures ∙ ap (λ (k : Caller). read_at k c.args.run.now (cursor_of c.loop-step.cursor)) c.service.ensures) ∙ ap read_of c.in-Step.is)
+    going_step c.loop-step.invariant.going _ _
+    (ap (λ (k : Caller). read_at k c.args.run.now (cursor_of c.loop-step.cursor)) (sym c.limits-limits.ensures) ∙ sym (rw c.in-Ok-Step.field-0-is at c.in-Ok-Step.ensures))
 
-pub shape_of-out-in_default-past : goal.shape_of-out-in_default-past
-shape_of-out-in_default-past c = c.loop-step.invariant.kept
-
-pub returns-in_default-past : goal.returns-in_default-past
-returns-in_default-past c =
-    absurd (past_never _ _ (gone (goal.at.returns-in_default-past c).In-Step).row _ (ap pass_answer_of (sym c.in_default-past.is) ∙ c.past.ensures))
-
-taken : (c : In-Past) → let Q = active_of c.loop-step.held in
-    active_of c.in-Past.behind ≡ passed Q (step_of c.in-Step.step)
-taken c =
-    (past_is _ _ (going_step c.loop-step.invariant.going _ _ (sym (c.read-got.ensures ∙ ap (λ (k : Caller). read_at k c.args.run.now (cursor_of c.loop-step.cursor)) c.service.ensures) ∙ ap read_of c.in-Step.is)).row c.in-Past.field-0 c.in-Past.behind (ap pass_answer_of (sym c.in-Past.is) ∙ c.past.ensures)).1
-
-pub put_step_if-end-requires : goal.put_step_if-end-requires
-put_step_if-end-requires c =
+pub put_step-end-requires : goal.put_step-end-requires
+put_step-end-requires c =
     let w = c.loop-step.invariant in
-    let narrow = here_narrow w (gone (goal.at.put_step_if-end-requires c).In-Step) in
-    record { narrow_pauli = (narrow.frame, narrow.step, omega (arith, w.small, at_most w)); fact = line_fits w (gone (goal.at.put_step_if-end-requires c).In-Step) }
+    (here_narrow w (gone (goal.at.put_step-end-requires c).In-Ok-Step), omega (arith, w.small, at_most w))
+
+pub unwrap-requires : goal.unwrap-requires
+unwrap-requires c = past_unrefused _ _ (gone (goal.at.unwrap-requires c).In-Ok-Step).row c.past.result c.past.ensures
 
 pub overflow_add-number : goal.overflow_add-number
 overflow_add-number c =
@@ -62,21 +40,32 @@ overflow_add-number c =
     record { fits = omega (arith, w.number, at_most w) }
 
 pub loop-step-smaller : goal.loop-step-smaller
-loop-step-smaller c = (gone (goal.at.loop-step-smaller c).In-Step).less
+loop-step-smaller c = (gone (goal.at.loop-step-smaller c).In-Ok-Step).less
 
 pub loop-step-preserved : goal.loop-step-preserved
 loop-step-preserved c =
     let w = c.loop-step.invariant in
-    let narrow = here_narrow w (gone (goal.at.loop-step-preserved c).In-Step) in
-    turn w (gone (goal.at.loop-step-preserved c).In-Step) (taken (goal.at.loop-step-preserved c).In-Past) (step_most _ _ (omega (arith, w.number, at_most w)) narrow.frame narrow.step) c.put_step_if-end.ensures
+    let g = gone (goal.at.loop-step-preserved c).In-Ok-Step in
+    let narrow = here_narrow w g in
+    let did = past_is _ _ g.row c.past.result c.past.ensures c.unwrap.result c.unwrap.ensures in
+    turn w g did.1 (step_most _ _ (omega (arith, w.number, at_most w)) narrow.frame narrow.step) c.put_step-end.ensures
 
-pub put_end_if-requires : goal.put_end_if-requires
-put_end_if-requires c =
+pub put_end-requires : goal.put_end-requires
+put_end-requires c =
     let w = c.loop-step.invariant in
-    let none = none_left w.going.left c.read-got.result (read_is (goal.at.put_end_if-requires c).After-read-got) (opened c.in_default.in_default-own.keys2) in
-    record { narrow_pauli = (end_narrow w none, omega (arith, w.small, at_most w)); frame_in_bounds = end_fits w none }
+    let read = read_is (goal.at.put_end-requires c).After-read in
+    let none : w.steps ≡ [] = elim c.match-read.branch [
+      | in_default b ↦ none_left w.going.left c.read.result read (λ t d e. cc)
+      | in_default-2 b ↦ none_left w.going.left c.read.result read (λ t d e. cc)
+    ] in
+    (end_narrow w none, omega (arith, w.small, at_most w))
 
 pub returns : goal.returns
 returns c =
     let w = c.loop-step.invariant in
-    over w (none_left w.going.left c.read-got.result (read_is (goal.at.returns c).After-read-got) (opened c.in_default.in_default-own.keys2)) c.put_end_if.ensures
+    let read = read_is (goal.at.returns c).After-read in
+    let none : w.steps ≡ [] = elim c.match-read.branch [
+      | in_default b ↦ none_left w.going.left c.read.result read (λ t d e. cc)
+      | in_default-2 b ↦ none_left w.going.left c.read.result read (λ t d e. cc)
+    ] in
+    over w none c.put_end.ensures

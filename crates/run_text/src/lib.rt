@@ -7,7 +7,6 @@ pub mod line;
 ghost use Rattle.std.specs.Prelude.{◌≡◌, length};
 
 use kernel_calls::read;
-use kernel_calls::read::Parsed;
 use pauli_calls::form;
 
 // Room for a run, filled with a byte: more than the 65,536 bytes that a run may have.
@@ -17,70 +16,63 @@ pub fn room(byte: u8) -> [u8; 66000]
     [byte; 66000]
 }
 
-// Writes the run to the start of `out`, and answers its length: usize::MAX where there is no text, or no room.
-pub fn run(text: &[u8], out: &mut [u8]) -> usize {
-    let mut size = 0;
-    let mut start = 0;
-    while start < text.len() {
-        let end = octets::scan::find(text, start, text.len(), b',');
-        size = piece(&text[start..end], out, size);
-        if end == text.len() {
-            return size;
-        }
-        start = end + 1;
+// The run that a text begins with, behind a space, written to the start of `space`; and the text that follows it. None
+// where there is no run, or no room.
+pub fn first<'a, 'b>(text: &'a [u8], space: &'b mut [u8]) -> Option<(&'b [u8], &'a [u8])> {
+    let [_, text @ ..] = text else {
+        return None;
+    };
+    let end = octets::scan::find(text, 0, text.len(), b' ');
+    let size = write_run(&text[..end], space)?;
+    Some((space.get(..size)?, &text[end..]))
+}
+
+// Writes the run to the start of `out`, and answers its length: none where its last piece is empty.
+fn write_run(text: &[u8], out: &mut [u8]) -> Option<usize> {
+    if let [] | [.., b','] = text {
+        return None;
     }
-    usize::MAX
+    let mut size = 0;
+    for piece in text.split(|byte| *byte == b',') {
+        size = write_piece(piece, out, size)?;
+    }
+    Some(size)
 }
 
 // One piece, written from `at` on; the place behind it.
-fn piece(text: &[u8], out: &mut [u8], at: usize) -> usize {
-    let star = octets::scan::find(text, 0, text.len(), b'*');
-    if star == text.len() {
-        return hex(text, out, at);
+fn write_piece(text: &[u8], out: &mut [u8], at: usize) -> Option<usize> {
+    match text.iter().position(|byte| *byte == b'*') {
+        Some(star) => {
+            let count = read::number(&text[..star]).unwrap_or(0);
+            write_times(count, &text[star + 1..], out, at)
+        }
+        None => write_hex(text, out, at),
     }
-    let digits = star + 1;
-    times(count(&text[0..star]), &text[digits..], out, at)
-}
-
-fn count(text: &[u8]) -> usize {
-    let Parsed::Value(count) = read::number(text) else {
-        return 0;
-    };
-    form::index(count)
 }
 
 // The same digits, so many times, until there is no room for more; fewer than two digits are no byte.
-fn times(count: usize, digits: &[u8], out: &mut [u8], at: usize) -> usize {
+fn write_times(count: u64, digits: &[u8], out: &mut [u8], at: usize) -> Option<usize> {
     if digits.len() < 2 {
-        return at;
+        return Some(at);
     }
     let mut end = at;
-    let mut k = 0;
-    while k < count {
-        end = hex(digits, out, end);
-        if end == usize::MAX {
-            return end;
-        }
-        k += 1;
+    for _ in 0..count {
+        end = write_hex(digits, out, end)?;
     }
-    end
+    Some(end)
 }
 
-// Two digits a byte, written from `at` on; the place behind them. What is no digit stands for 0.
-fn hex(digits: &[u8], out: &mut [u8], at: usize) -> usize {
+// Two digits a byte, written from `at` on; the place behind them.
+fn write_hex(digits: &[u8], out: &mut [u8], at: usize) -> Option<usize> {
     let mut end = at;
-    let mut i = 0;
-    while i + 1 < digits.len() {
-        if out.len() <= end {
-            return usize::MAX;
-        }
-        out[end] = byte(digits[i], digits[i + 1]);
+    for pair in digits.chunks_exact(2) {
+        *out.get_mut(end)? = value(pair[0]) << 4 | value(pair[1]);
         end += 1;
-        i += 2;
     }
-    end
+    Some(end)
 }
 
-fn byte(high: u8, low: u8) -> u8 {
-    (form::digit(high, 1) % 16 * 16 + form::digit(low, 1) % 16) as u8
+// What is no digit stands for 0.
+fn value(digit: u8) -> u8 {
+    form::digit(digit).unwrap_or(0)
 }

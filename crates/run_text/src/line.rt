@@ -1,15 +1,8 @@
-// Refusals with a place, and texts and bytes that may be long.
-use kernel_calls::write;
+// Texts and bytes that may be long.
 use pauli_calls::show;
 
 // The C library's number of standard output.
 const STDOUT_FILENO: i32 = 1;
-
-pub fn refused_at(row: u8, at: usize) {
-    show::refused(row);
-    io::write_all(STDOUT_FILENO, b" at");
-    write::number(at as u64);
-}
 
 // A text's length, and the text on one line, or where it has more than 400 bytes a digest of it.
 pub fn shown(text: &[u8]) {
@@ -19,14 +12,8 @@ pub fn shown(text: &[u8]) {
         return;
     }
     show::byte(b' ');
-    on_one_line(text);
-}
-
-fn on_one_line(text: &[u8]) {
-    let mut i = 0;
-    while i < text.len() {
-        show::byte(in_line(text[i]));
-        i += 1;
+    for byte in text {
+        show::byte(in_line(*byte));
     }
 }
 
@@ -46,37 +33,23 @@ pub fn bytes(bytes: &[u8]) {
 
 pub fn hex(bytes: &[u8]) {
     io::write_all(STDOUT_FILENO, b" [");
-    let mut i = 0;
-    while i < bytes.len() {
-        io::print_hex(STDOUT_FILENO, wide(bytes[i]), 2);
-        i += 1;
+    for byte in bytes {
+        io::print_hex(STDOUT_FILENO, u64::from(*byte), 2);
     }
     show::byte(b']');
 }
 
-fn wide(byte: u8) -> u64 {
-    byte as u64
-}
-
-pub fn summed(bytes: &[u8]) {
+fn summed(bytes: &[u8]) {
     show::byte(b' ');
     io::print_hex(STDOUT_FILENO, digest(bytes), 16);
 }
 
-// From FNV's offset basis, byte by byte. A byte that is changed always changes it: no step takes two values to one.
+// From FNV's offset basis, byte by byte, xored in and then times 2^40 + 2^8 + 1. A byte that is changed always changes it:
+// no step takes two values to one.
 fn digest(bytes: &[u8]) -> u64 {
-    let mut value = 0xcbf29ce484222325;
-    let mut i = 0;
-    while i < bytes.len() {
-        value = digested(value, bytes[i]);
-        i += 1;
+    let mut value: u64 = 0xcbf29ce484222325;
+    for byte in bytes {
+        value = (value ^ u64::from(*byte)).wrapping_mul(0x10000000101);
     }
     value
-}
-
-// The byte xored in, times 2^40 + 2^8 + 1.
-fn digested(value: u64, byte: u8) -> u64 {
-    let mixed = value ^ (byte as u64);
-    let low = std::num::wrapping_add_u64(mixed << 8, mixed);
-    std::num::wrapping_add_u64(mixed << 40, low)
 }

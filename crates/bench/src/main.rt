@@ -1,8 +1,6 @@
 // Reads one run from standard input, and writes its listing to standard output.
 #![tactic(auto)]
 
-use paulitext::TextAnswer;
-
 // The C library's numbers of standard input and output.
 const STDIN_FILENO: i32 = 0;
 
@@ -14,10 +12,6 @@ fn main() {
     let n = io::read_full(STDIN_FILENO, &mut input);
     // Long enough for every listing, so that none is refused.
     let mut text = [0u8; 159754];
-    match listing::list_run(&input[..n], &mut text) {
-        TextAnswer::Length(len) => {
-            io::write_all(STDOUT_FILENO, &text[..len]);
-        }
-        TextAnswer::Refused(_) => check::expect(false),
-    }
+    let len = listing::list_run(&input[..n], &mut text).unwrap();
+    io::write_all(STDOUT_FILENO, &text[..len]);
 }

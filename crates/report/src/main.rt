@@ -2,8 +2,6 @@
 // what carrying the Pauli does to the run's steps to standard output.
 #![tactic(auto)]
 
-use paulitext::TextAnswer;
-
 // The C library's numbers of standard input and output.
 const STDIN_FILENO: i32 = 0;
 
@@ -15,10 +13,6 @@ fn main() {
     let n = io::read_full(STDIN_FILENO, &mut input);
     // Long enough for every report, so that none is refused.
     let mut text = [0u8; 441370];
-    match reports::list_report(&input[..n], &mut text) {
-        TextAnswer::Length(len) => {
-            io::write_all(STDOUT_FILENO, &text[..len]);
-        }
-        TextAnswer::Refused(_) => check::expect(false),
-    }
+    let len = reports::list_report(&input[..n], &mut text).unwrap();
+    io::write_all(STDOUT_FILENO, &text[..len]);
 }

@@ -14,6 +14,7 @@ ghost use Rattle.bits.specs.Opening.{opening};
 use refusals::Row;
 
 // Whether the count of ones in a word is odd.
+#[tactic(auto, unfolding(bitlaws::specs::Parity::parity))]
 pub fn is_odd_popcount(value: u64) -> bool
     ensures { result ≡ eqb (parity value) 1 }
 {
@@ -21,6 +22,7 @@ pub fn is_odd_popcount(value: u64) -> bool
 }
 
 // Whether bit q of a word is set: none is from bit 64 on.
+#[tactic(auto, unfolding(bitlaws::specs::Digit::digit))]
 pub fn word_bit(word: u64, q: usize) -> bool
     ensures { result ≡ eqb (digit q word) 1 }
 {
@@ -39,6 +41,7 @@ pub fn differs_from_parity(bit: bool, a: u64, b: u64) -> bool
 
 // Widens `packed` by opening a zero bit at position `bit`: the inverse of dropping qubit `bit` from
 // a basis index. A top bit that would move past bit 63 is lost; a position over 63 is refused by 5.
+#[tactic(auto, unfolding(crate::specs::Opening::opening, answers::specs::Answer::refuse))]
 pub fn insert_zero_bit(packed: usize, bit: usize) -> Result<usize, Row>
     ensures { answer_of (λ i. i) result ≡ opening packed bit }
 {

@@ -20,6 +20,7 @@ pub(crate) fn times(a: PauliString, b: PauliString) -> PauliString
     }
 }
 
+#[tactic(auto, unfolding(paulilaws::specs::Pauli::anti, bitlaws::specs::Parity::overlap, bitlaws::specs::Parity::parity))]
 pub(crate) fn anticommute(a: PauliString, b: PauliString) -> bool
     ensures { result ≡ eqb (book.anti (pauli_of a) (pauli_of b)) 1 }
 {
@@ -27,6 +28,7 @@ pub(crate) fn anticommute(a: PauliString, b: PauliString) -> bool
 }
 
 // The phase minus the number of Ys, modulo 4.
+#[tactic(auto, unfolding(paulilaws::specs::Pauli::coefficient, paulilaws::specs::Pauli::ys))]
 pub(crate) fn coefficient(pauli: PauliString) -> u8
     ensures { result ≡ book.coefficient (pauli_of pauli) }
 {

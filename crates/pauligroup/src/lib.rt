@@ -13,6 +13,7 @@ use paulis::PauliString;
 use refusals::Row;
 
 // Refused where the two are no Paulis, or of different widths.
+#[tactic(auto, unfolding(crate::specs::Calls::pair_row, answers::specs::Row::row))]
 fn are_pair(a: PauliString, b: PauliString) -> Result<(), Row>
     ensures { row_of result ≡ pair_row (pauli_of a) (pauli_of b) }
 {
@@ -42,6 +43,7 @@ pub fn pauli_anticommutes(a: PauliString, b: PauliString) -> Result<bool, Row>
 }
 
 // The exponent of i in front of the letters: the phase minus the number of Ys, modulo 4.
+#[tactic(auto, unfolding(crate::specs::Calls::coefficient_call, paulis::specs::Calls::on_pauli, answers::specs::Answer::refuse))]
 pub fn coefficient_phase(pauli: PauliString) -> Result<u8, Row>
     ensures { answer_of (λ k. k) result ≡ coefficient_call (pauli_of pauli) }
 {

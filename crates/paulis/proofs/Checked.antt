@@ -1,7 +1,7 @@
 -- What a call that looks at its Pauli first, and has a value of it else, tells of the Pauli and of other calls on it.
 use Rattle.std.specs.Prelude.{◌≡◌, refl, Bool, true, false, ℕ}
-use Rattle.std.proofs.Common.{sym, ap, ◌∙◌, arith}
-use Rattle.answers.specs.Answer.{Answer, refuse}
+use Rattle.std.proofs.Common.{◌∙◌, arith}
+use Rattle.answers.specs.Answer.{refuse}
 use Rattle.answers.specs.Answer.Answer.{accepted, refused}
 use Rattle.paulilaws.specs.Pauli.{Pauli, fits}
 use Rattle.paulis.specs.Calls.{on_pauli}
@@ -22,12 +22,3 @@ module _ {A : Type 0} (P : Pauli) (v : A) where
       go : (b : Bool) → fits P ≡ b → (fits P ≡ false) × (n ≡ 3)
       go false f = (f, (let h : refused n ≡ refused 3 = e ∙ rw f in cc))
       go true f = absurd (let h : refused n ≡ accepted v = e ∙ rw f in let z : ◌≡◌ {A = ℕ} 0 1 = cc in omega arith)
-
-  -- and what a call that asks for it answers with its own value
-  pub told_refuses : {B : Type 0} {n : ℕ} → refused n ≡ on_pauli P (accepted v) → (rest : Answer B) → on_pauli P rest ≡ refused n
-  unfolding on_pauli refuse
-  told_refuses e rest = let h = refused_told e in rw h.0 (ap refused (sym h.1))
-
-  pub told_passes : {B : Type 0} {w : A} → accepted w ≡ on_pauli P (accepted v) → (rest : Answer B) → on_pauli P rest ≡ rest
-  unfolding on_pauli refuse
-  told_passes e rest = rw (value_told e).0

@@ -3,8 +3,8 @@ use Rattle.std.specs.Prelude.{◌≡◌, refl, Bool, true, false, not, ℕ, ◌�
 use Rattle.std.proofs.Common.{sym, ◌∙◌, le-leb, leb-false, arith}
 use Rattle.std.proofs.lemmas.Bool.{lt-leb, not-false}
 use Rattle.answers.specs.Answer.{Answer, refuse}
-use Rattle.answers.specs.Answer.Answer.{accepted, refused}
-use Rattle.answers.specs.Row.{row, answered, row_passed}
+use Rattle.answers.specs.Answer.Answer.{refused}
+use Rattle.answers.specs.Row.{row, row_passed}
 use Rattle.paulilaws.specs.Pauli.{Pauli, fits}
 use Rattle.paulilaws.specs.Fitting.{Admitted}
 use Rattle.paulilaws.proofs.Fitting.{fits_admitted}
@@ -39,15 +39,6 @@ module _ {A : Type 0} (P : Pauli) (q : ℕ) (rest : Answer A) {t : Bool} (is : t
 
 -- the same from the row alone
 module _ (P : Pauli) (q : ℕ) where
-  pub on_qubit_row : {A : Type 0} (a : A) → on_qubit P q (accepted a) ≡ answered (qubit_row P q) a
-  unfolding on_qubit on_pauli refuse qubit_row row answered
-  on_qubit_row {A} a = go (fits P) (leb P.n q)
-    where
-      go : (f l : Bool) → refuse (not f) 3 (refuse l 5 (accepted a)) ≡ answered (row (not f) 3 (row l 5 0)) a
-      go false l = refl
-      go true false = refl
-      go true true = refl
-
   pub qubit_passed : qubit_row P q ≡ 0 → Admitted P × (q < P.n)
   unfolding qubit_row
   qubit_passed e =

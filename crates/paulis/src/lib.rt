@@ -41,6 +41,7 @@ pub enum Pauli {
     Y,
 }
 
+#[tactic(auto, unfolding(masks::specs::Mask::mask, bitlaws::specs::Words::words))]
 fn identity(nqubits: usize) -> PauliString
     ensures { pauli_of result ≡ book.identity nqubits }
 {
@@ -54,6 +55,7 @@ fn identity(nqubits: usize) -> PauliString
 
 impl PauliString {
     // Identity on `nqubits` qubits.
+    #[tactic(auto, unfolding(crate::specs::Calls::identity_call, answers::specs::Answer::refuse))]
     pub fn new(nqubits: usize) -> Result<PauliString, Row>
         ensures { answer_of pauli_of result ≡ identity_call nqubits }
     {
@@ -64,6 +66,7 @@ impl PauliString {
     }
 
     // The Pauli with these fields.
+    #[tactic(auto, unfolding(crate::specs::Calls::parts_call, crate::specs::Calls::on_pauli, answers::specs::Answer::refuse))]
     pub fn from_parts(
         nqubits: usize,
         x: [u64; 4],
@@ -86,6 +89,7 @@ impl PauliString {
 
     // Whether the fields are a Pauli: phase at most 3, width at most 256, no mask bit at or above
     // the width.
+    #[tactic(auto, unfolding(paulilaws::specs::Pauli::fits))]
     pub fn is_pauli(self) -> bool
         ensures { result ≡ fits (pauli_of self) }
     {
@@ -99,6 +103,7 @@ impl PauliString {
     }
 
     // Refused where the fields are no Pauli, or one that has no qubit `q`.
+    #[tactic(auto, unfolding(crate::specs::Calls::qubit_row, answers::specs::Row::row))]
     fn has_qubit(self, q: usize) -> Result<(), Row>
         ensures { row_of result ≡ qubit_row (pauli_of self) q }
     {

@@ -5,11 +5,6 @@
 // both listings of E6.
 #![tactic(auto)]
 
-// The C library's number of standard input.
-const STDIN_FILENO: i32 = 0;
-
 fn main() {
-    let mut input = kernel_calls::buffer();
-    let n = io::read_full(STDIN_FILENO, &mut input);
-    run_calls::answer_lines(&input[..n]);
+    kernel_calls::answer_input(run_calls::answer);
 }

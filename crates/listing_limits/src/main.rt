@@ -2,7 +2,9 @@
 // on a line, and then the whole buffer. The file stdout beside this folder was derived by hand from the scope.
 #![tactic(auto)]
 
-use paulitext::TextAnswer;
+ghost use Rattle.std.specs.Prelude.{◌≤◌};
+
+use refusals::Row;
 
 // The C library's number of standard output.
 const STDOUT_FILENO: i32 = 1;
@@ -17,65 +19,54 @@ fn main() {
     short_runs();
 }
 
+// Lends the call a buffer of so many dots; what it answers is printed, and the whole buffer.
+fn lend<F: FnOnce(&mut [u8]) -> Result<usize, Row>>(size: usize, call: F)
+    requires callable { F.IsAlwaysCallable call }
+    requires within { size ≤ 90 }
+{
+    let mut dots = [b'.'; 90];
+    let buffer = &mut dots[..size];
+    let answer = call(buffer);
+    show(answer, buffer);
+}
+
 fn widths() {
-    width(0);
-    width(12);
-    width(usize::MAX);
+    for width in [0, 12, usize::MAX] {
+        lend(56, |buffer| lines::qubits(width, buffer));
+    }
 }
 
 fn refusals() {
-    refused(13);
-    refused(14);
-    refused(255);
+    for number in [13, 14, 255] {
+        lend(56, |buffer| lines::refused(number, buffer));
+    }
 }
 
 fn amplitudes() {
     let nan = 0.0 / 0.0;
-    amplitude(0, nan, -nan);
-    amplitude(9, -0.0, 0.0);
-    amplitude(10, 1.0 / 0.0, -1.0 / 0.0);
-    // The least denormal.
-    amplitude(4095, 5e-324, 1.0);
-    amplitude(usize::MAX, 0.1, -1.5);
-}
-
-fn width(width: usize) {
-    let mut buffer = [b'.'; 56];
-    let answer = lines::qubits(width, &mut buffer);
-    show(answer, &buffer);
-}
-
-fn refused(number: u8) {
-    let mut buffer = [b'.'; 56];
-    let answer = lines::refused(number, &mut buffer);
-    show(answer, &buffer);
-}
-
-fn amplitude(basis: usize, re: f64, im: f64) {
-    let mut buffer = [b'.'; 56];
-    let answer = lines::amplitude(basis, re, im, &mut buffer);
-    show(answer, &buffer);
+    for (basis, re, im) in [
+        (0, nan, -nan),
+        (9, -0.0, 0.0),
+        (10, 1.0 / 0.0, -1.0 / 0.0),
+        // The least denormal.
+        (4095, 5e-324, 1.0),
+        (usize::MAX, 0.1, -1.5),
+    ] {
+        lend(56, |buffer| lines::amplitude(basis, re, im, buffer));
+    }
 }
 
 // Each line in a buffer one byte too short, and in one just long enough.
 fn short() {
-    let mut nine = [b'.'; 9];
-    let answer = lines::qubits(12, &mut nine);
-    show(answer, &nine);
+    lend(9, |buffer| lines::qubits(12, buffer));
     let mut ten = [b'.'; 10];
     let answer = lines::qubits(12, &mut ten);
     show(answer, &ten);
     let answer = lines::refused(13, &mut ten);
     show(answer, &ten);
-    let mut eleven = [b'.'; 11];
-    let answer = lines::refused(13, &mut eleven);
-    show(answer, &eleven);
-    let mut thirty_five = [b'.'; 35];
-    let answer = lines::amplitude(9, 1.0, 0.0, &mut thirty_five);
-    show(answer, &thirty_five);
-    let mut thirty_six = [b'.'; 36];
-    let answer = lines::amplitude(9, 1.0, 0.0, &mut thirty_six);
-    show(answer, &thirty_six);
+    lend(11, |buffer| lines::refused(13, buffer));
+    lend(35, |buffer| lines::amplitude(9, 1.0, 0.0, buffer));
+    lend(36, |buffer| lines::amplitude(9, 1.0, 0.0, buffer));
 }
 
 fn digits() {
@@ -109,36 +100,24 @@ fn runs() {
 }
 
 fn listed(run: &[u8]) {
-    let mut buffer = [b'.'; 56];
-    let answer = listing::list_run(run, &mut buffer);
-    show(answer, &buffer);
+    lend(56, |buffer| listing::list_run(run, buffer));
 }
 
 // The scope's example, and a refusal, in a buffer one byte too short, in one just long enough, and in a longer one.
 fn short_runs() {
     let run =
         b"\x01\x01\x00\x01\x05\x11\x00\x00\x01\x00\x00\x00\x00\x00\x00\x00\x00\x00\x00\x00\x00\x00\x00\x00\x06\x00\x00";
-    let mut eighty = [b'.'; 80];
-    let answer = listing::list_run(run, &mut eighty);
-    show(answer, &eighty);
-    let mut eighty_one = [b'.'; 81];
-    let answer = listing::list_run(run, &mut eighty_one);
-    show(answer, &eighty_one);
-    let mut ninety = [b'.'; 90];
-    let answer = listing::list_run(run, &mut ninety);
-    show(answer, &ninety);
-    let mut ten = [b'.'; 10];
-    let answer = listing::list_run(b"", &mut ten);
-    show(answer, &ten);
-    let mut eleven = [b'.'; 11];
-    let answer = listing::list_run(b"", &mut eleven);
-    show(answer, &eleven);
+    lend(80, |buffer| listing::list_run(run, buffer));
+    lend(81, |buffer| listing::list_run(run, buffer));
+    lend(90, |buffer| listing::list_run(run, buffer));
+    lend(10, |buffer| listing::list_run(b"", buffer));
+    lend(11, |buffer| listing::list_run(b"", buffer));
 }
 
-fn show(answer: TextAnswer, buffer: &[u8]) {
+fn show(answer: Result<usize, Row>, buffer: &[u8]) {
     match answer {
-        TextAnswer::Length(n) => told(b"length ", n as u64),
-        TextAnswer::Refused(n) => told(b"refused by ", n as u64),
+        Ok(n) => told(b"length ", n as u64),
+        Err(row) => told(b"refused by ", u64::from(u8::from(row))),
     }
     io::write_all(STDOUT_FILENO, buffer);
     io::write_all(STDOUT_FILENO, b"\n");

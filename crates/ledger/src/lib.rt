@@ -68,8 +68,7 @@ impl Ledger {
             let call : history.Call = record { run = run.now; memory = m } in
             ledger_of result.ledger ≡ history.after (history.serving call) (ledger_of self) }
     {
-        let answer =
-            runner::run_contiguous(run, re, im, scratch_re, scratch_im, Caller::Service);
+        let answer = runner::run_contiguous(run, re, im, scratch_re, scratch_im, Caller::Service);
         let ledger = self.counted(answer.is_ok());
         Served { answer, ledger }
     }
@@ -90,8 +89,7 @@ impl Ledger {
             let call : history.Call = record { run = run.now; memory = m } in
             ledger_of result.ledger ≡ history.after (history.emulating call) (ledger_of self) }
     {
-        let answer =
-            runner::run_contiguous(run, re, im, scratch_re, scratch_im, Caller::Emulator);
+        let answer = runner::run_contiguous(run, re, im, scratch_re, scratch_im, Caller::Emulator);
         Served {
             answer,
             ledger: self,

@@ -1,5 +1,5 @@
 -- `ledger::one_more` meets its contract: a bool as a number is its digit.
-use Rattle.std.proofs.Common.{ℕ, ◌+◌, ◌%◌, ◌^◌, ap, ◌∙◌, rules}
+use Rattle.std.proofs.Common.{ℕ, ◌+◌, ◌%◌, ◌^◌, ap, ◌∙◌}
 use Rattle.steps.proofs.Flag.{byte_digit}
 use Rattle.runlaws.specs.Ledger.{raised_by}
 use Rattle.ledger.proofs.one_more.Goals as goal

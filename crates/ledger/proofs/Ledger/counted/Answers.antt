@@ -1,5 +1,5 @@
 -- `Ledger::counted` meets its contract, count by count.
-use Rattle.std.proofs.Common.{◌≡◌, ℕ, Bool, true, not, rules}
+use Rattle.std.proofs.Common.{◌≡◌, ℕ, Bool, true, not}
 use Rattle.runlaws.specs.Ledger.{Ledger, raised_by, counted}
 use Rattle.ledger.proofs.Ledger.counted.Goals as goal
 

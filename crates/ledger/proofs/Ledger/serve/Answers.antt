@@ -1,5 +1,5 @@
 -- `Ledger::serve` meets its contract: the run's, and one call more in the ledger.
-use Rattle.std.proofs.Common.{◌≡◌, Bool, refl, ap, ◌∙◌, rules}
+use Rattle.std.proofs.Common.{◌≡◌, Bool, refl, ap, ◌∙◌}
 use Rattle.std.specs.Prelude.{Result, Ok, Err}
 use Rattle.std.specs.Result.{is_ok}
 use Rattle.answers.specs.Answer.{Answer, is_accepted}

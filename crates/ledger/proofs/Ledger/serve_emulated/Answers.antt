@@ -1,5 +1,5 @@
 -- `Ledger::serve_emulated` meets its contract: the run's, and the ledger as it was.
-use Rattle.std.proofs.Common.{refl, rules}
+use Rattle.std.proofs.Common.{refl}
 use Rattle.runlaws.specs.Ledger.{after}
 use Rattle.ledger.proofs.Ledger.serve_emulated.Goals as goal
 

@@ -1,11 +1,13 @@
 -- A step that is given by its tag: the row of a flag that is no bit, and that one which is a bit is taken for it.
-use mathlib.Core.Path.{◌≡◌, refl}
-use mathlib.Core.Bool.{Bool, true, false, cond}
-use Prim.Native.Nat.{ℕ, zero, suc}
+use mathlib.Core.Path.{◌≡◌, refl, ap, ◌∙◌}
+use mathlib.Core.Bool.{Bool, true, false, not, cond}
+use Prim.Native.Nat.{ℕ, zero, suc, ◌<◌}
 use native.Mathlib.Omega.{arith}
 use lib.Dec.{eqb}
 use lib.Ieee.{Float}
 use borrow.Author.Tests.{lt-ltb}
+use Rattle.answers.specs.Answer.{Answer, refuse}
+use Rattle.answers.specs.Answer.Answer.{refused}
 use Rattle.answers.specs.Row.{row, answered}
 use Rattle.bitlaws.specs.Digit.{bit_of}
 use Rattle.amplitudelaws.specs.Step.{Step}
@@ -15,7 +17,7 @@ use Rattle.framelaws.specs.PassRow.{Passage, pair_row, pass_row, past_call}
 use Rattle.paulilaws.specs.Pauli.{Pauli}
 use Rattle.verdicts.specs.Flag.{flag_row, behind}
 use Rattle.run_exports.specs.Reading.{FieldSeen, step_back}
-use Rattle.run_exports.specs.Past.{bit_row, as_bit}
+use Rattle.run_exports.specs.Past.{is_step_tag, bit_row, as_bit, given_call}
 
 -- ---- the row
 
@@ -76,3 +78,23 @@ module _ (Q : Pauli) (f : FieldSeen) where
       go false false true d = by_flag (pass_row Q (at false false true d 0)) (behind_it (at false false true d)) f.flag
       go false false false true = refl
       go false false false false = refl
+
+-- ---- the tag's row, before all
+
+module _ {A : Type 0} (a : Answer A) where
+  pub by_tag : (t : Bool) (n : ℕ) → 0 < n → n ≡ row t 14 0 → refused n ≡ refuse t 14 a
+  unfolding row refuse
+  by_tag true n some e = ap refused e
+  by_tag false n some e = absurd (omega arith)
+
+  passed_tag : (t : Bool) → 0 ≡ row t 14 0 → a ≡ refuse t 14 a
+  unfolding row refuse
+  passed_tag true e = absurd (omega arith)
+  passed_tag false e = refl
+
+pub given_told : (Q : Pauli) (f : FieldSeen) (a : Answer (Passage Float)) → 0 ≡ row (not (is_step_tag f.tag)) 14 0
+    → a ≡ past_call Q (step_back (as_bit f))
+    → behind a (bit_row (step_back f)) ≡ given_call Q f
+unfolding given_call
+given_told Q f a none e =
+    ap (λ (a : Answer (Passage Float)). behind a (bit_row (step_back f))) e ∙ given_same Q f ∙ passed_tag _ (not (is_step_tag f.tag)) none

@@ -13,7 +13,7 @@ use Rattle.runlaws.specs.Fields.Decodes.{rotates, promotes, projects, corrects, 
 use Rattle.runlaws.specs.Reading.{Read, Cursor, read_at}
 use Rattle.runlaws.specs.Reading.Read.{step_read, end_read, refused_read}
 use Rattle.verdicts.specs.declared.Verdict.{Verdict}
-use Rattle.kernel_exports.specs.Nothing.{no_float}
+use Rattle.verdicts.specs.Nothing.{no_float}
 use Rattle.framelaws.specs.Caller.{Caller}
 use Rattle.run_exports.specs.declared.seen.SeenField.{SeenField}
 use Rattle.run_exports.specs.declared.seen.SeenRead.{SeenRead}

@@ -19,11 +19,10 @@ ghost use Rattle.run_exports.specs.Folding.{seen_folding_of};
 ghost use Rattle.run_exports.specs.Report.{report_seen, seen_report_of};
 ghost use Rattle.run_exports.specs.Reading.{read_seen, seen_read_of};
 
-use crate::seen;
 use crate::seen::{SeenEnding, SeenFolding, SeenRead, SeenReport, SeenServed, SeenSurvey};
+use active_seen::SeenActivePauli;
 use activepauli::ActivePauli;
-use callers::Caller;
-use kernel_exports::seen::SeenActivePauli;
+use callers::{Caller, Limits};
 use ledger::Ledger;
 use steps::Cursor;
 use verdicts::{SeenBit, SeenNumber};
@@ -34,14 +33,14 @@ pub extern "C" fn naribhush_read_emulated(run: &[u8], at: usize, width: usize) -
         seen_read_of result ≡ read_seen read }
 {
     let cursor = Cursor { at, width };
-    seen::read(reader::read(run, cursor, Caller::Emulator))
+    SeenRead::from(reader::read(run, cursor, Limits::Emulator))
 }
 
 #[unsafe(no_mangle)]
 pub extern "C" fn naribhush_check_emulated(run: &[u8]) -> SeenSurvey
     ensures { Seen result.verdict (survey_fields_of result.survey) no_survey (checking emulator run.now) }
 {
-    seen::survey(checker::check_emulated(run))
+    SeenSurvey::from(checker::check_run(run, Limits::Emulator))
 }
 
 #[unsafe(no_mangle)]
@@ -57,7 +56,7 @@ pub extern "C" fn naribhush_run_emulated(
         Seen result.verdict (seen_ending_of result) no_ending did.answer
         × (memory_of re.new im.new scratch_re.new scratch_im.new ≡ did.lent) }
 {
-    seen::ending(runner::run_emulated(run, re, im, scratch_re, scratch_im))
+    SeenEnding::from(runner::run_contiguous(run, re, im, scratch_re, scratch_im, Caller::Emulator))
 }
 
 #[unsafe(no_mangle)]
@@ -69,14 +68,14 @@ pub extern "C" fn naribhush_carry_emulated(
     ensures { let did = carrying emulator run.now (active_of pauli) out.old in
         Seen result.verdict (active_of result.pauli) (identity 0) did.answer × (out.new ≡ did.lent) }
 {
-    seen::carried(carrier::carry_emulated(run, pauli, out))
+    SeenActivePauli::from(carrier::carry_run(run, pauli, out, Caller::Emulator))
 }
 
 #[unsafe(no_mangle)]
 pub extern "C" fn naribhush_seek_emulated(run: &[u8], end: ActivePauli) -> SeenActivePauli
     ensures { Seen result.verdict (active_of result.pauli) (identity 0) (seeking emulator run.now (active_of end)) }
 {
-    seen::sought(seeker::seek_emulated(run, end))
+    SeenActivePauli::from(seeker::seek_start(run, end, Caller::Emulator))
 }
 
 #[unsafe(no_mangle)]
@@ -84,7 +83,7 @@ pub extern "C" fn naribhush_fold_emulated(run: &[u8], out: &mut [u8]) -> SeenFol
     ensures { let did = folding emulator run.now out.old in
         Seen result.verdict (seen_folding_of result) no_folding did.answer × (out.new ≡ did.lent) }
 {
-    seen::folded(folder::fold_emulated(run, out))
+    SeenFolding::from(folder::fold_run(run, out, Caller::Emulator))
 }
 
 #[unsafe(no_mangle)]
@@ -96,7 +95,7 @@ pub extern "C" fn naribhush_report_emulated(
     ensures { let told = reporting emulator run.now (active_of pauli) number in
         Seen result.verdict (seen_report_of result) no_report (mapped report_seen told) }
 {
-    seen::reported(reporter::report_emulated(run, pauli, number))
+    SeenReport::from(reporter::report_step(run, pauli, number, Caller::Emulator))
 }
 
 #[unsafe(no_mangle)]
@@ -108,7 +107,7 @@ pub extern "C" fn naribhush_log_emulated(
     ensures { let did = logging emulator run.now (active_of pauli) out.old in
         Seen result.verdict result.number 0 did.answer × (out.new ≡ did.lent) }
 {
-    seen::logged(framelog::log_emulated(run, pauli, out))
+    SeenNumber::from(framelog::log_run(run, pauli, out, Caller::Emulator))
 }
 
 #[unsafe(no_mangle)]
@@ -116,7 +115,7 @@ pub extern "C" fn naribhush_judge_emulated(run: &[u8], pauli: ActivePauli, log: 
     ensures { let judged = judging emulator run.now (active_of pauli) log.now in
         Seen result.verdict result.bit false judged }
 {
-    seen::judged(framelog::judge_emulated(run, pauli, log))
+    SeenBit::from(framelog::judge_log(run, pauli, log, Caller::Emulator))
 }
 
 #[unsafe(no_mangle)]
@@ -137,10 +136,8 @@ pub extern "C" fn naribhush_serve_emulated(
         ledger_of result.ledger ≡ history.after (history.emulating call) (ledger_of ledger) }
 {
     let served = ledger.serve_emulated(run, re, im, scratch_re, scratch_im);
-    let answer = served.answer;
-    let counts = served.ledger;
     SeenServed {
-        ending: seen::ending(answer),
-        ledger: counts,
+        ending: SeenEnding::from(served.answer),
+        ledger: served.ledger,
     }
 }

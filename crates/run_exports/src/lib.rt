@@ -32,10 +32,10 @@ ghost use Rattle.run_exports.specs.Report.{report_seen, seen_report_of};
 ghost use Rattle.run_exports.specs.Reading.{read_seen, seen_read_of};
 ghost use Rattle.run_exports.specs.Past.{given_call, past_seen, given_of, past_of};
 
+use active_seen::SeenActivePauli;
 use activepauli::ActivePauli;
-use callers::Caller;
+use callers::{Caller, Limits};
 use given::{GivenStep, SeenPast};
-use kernel_exports::seen::SeenActivePauli;
 use ledger::Ledger;
 use seen::{SeenEnding, SeenFolding, SeenRead, SeenReport, SeenServed, SeenSurvey};
 use steps::Cursor;
@@ -49,21 +49,21 @@ pub extern "C" fn naribhush_read(run: &[u8], at: usize, width: usize, limit: usi
         seen_read_of result ≡ read_seen read }
 {
     let cursor = Cursor { at, width };
-    seen::read(reader::read(run, cursor, Caller::Service(limit)))
+    SeenRead::from(reader::read(run, cursor, Limits::Service(limit)))
 }
 
 #[unsafe(no_mangle)]
 pub extern "C" fn naribhush_check_run(run: &[u8]) -> SeenSurvey
     ensures { Seen result.verdict (survey_fields_of result.survey) no_survey (checking service run.now) }
 {
-    seen::survey(checker::check_run(run))
+    SeenSurvey::from(checker::check_run(run, Caller::Service.limits()))
 }
 
 #[unsafe(no_mangle)]
 pub extern "C" fn naribhush_check_within(run: &[u8], limit: usize) -> SeenSurvey
     ensures { Seen result.verdict (survey_fields_of result.survey) no_survey (checking (service_within limit) run.now) }
 {
-    seen::survey(checker::check_within(run, limit))
+    SeenSurvey::from(checker::check_run(run, Limits::Service(limit)))
 }
 
 #[unsafe(no_mangle)]
@@ -79,7 +79,7 @@ pub extern "C" fn naribhush_run(
         Seen result.verdict (seen_ending_of result) no_ending did.answer
         × (memory_of re.new im.new scratch_re.new scratch_im.new ≡ did.lent) }
 {
-    seen::ending(runner::run_contiguous(run, re, im, scratch_re, scratch_im))
+    SeenEnding::from(runner::run_contiguous(run, re, im, scratch_re, scratch_im, Caller::Service))
 }
 
 #[unsafe(no_mangle)]
@@ -87,7 +87,7 @@ pub extern "C" fn naribhush_carry(run: &[u8], pauli: ActivePauli, out: &mut [u8]
     ensures { let did = carrying service run.now (active_of pauli) out.old in
         Seen result.verdict (active_of result.pauli) (identity 0) did.answer × (out.new ≡ did.lent) }
 {
-    seen::carried(carrier::carry_run(run, pauli, out))
+    SeenActivePauli::from(carrier::carry_run(run, pauli, out, Caller::Service))
 }
 
 // Some Pauli on the start qubits whose carrying ends in this one on the last; 25 where there is none.
@@ -95,7 +95,7 @@ pub extern "C" fn naribhush_carry(run: &[u8], pauli: ActivePauli, out: &mut [u8]
 pub extern "C" fn naribhush_seek(run: &[u8], end: ActivePauli) -> SeenActivePauli
     ensures { Seen result.verdict (active_of result.pauli) (identity 0) (seeking service run.now (active_of end)) }
 {
-    seen::sought(seeker::seek_start(run, end))
+    SeenActivePauli::from(seeker::seek_start(run, end, Caller::Service))
 }
 
 // The run without its corrections, and the Pauli that is fired behind it instead.
@@ -104,7 +104,7 @@ pub extern "C" fn naribhush_fold(run: &[u8], out: &mut [u8]) -> SeenFolding
     ensures { let did = folding service run.now out.old in
         Seen result.verdict (seen_folding_of result) no_folding did.answer × (out.new ≡ did.lent) }
 {
-    seen::folded(folder::fold_run(run, out))
+    SeenFolding::from(folder::fold_run(run, out, Caller::Service))
 }
 
 // Whether the sign or the branch of step `number`, from 0 at the first field behind start, is changed where the Pauli is
@@ -114,7 +114,7 @@ pub extern "C" fn naribhush_report(run: &[u8], pauli: ActivePauli, number: usize
     ensures { let told = reporting service run.now (active_of pauli) number in
         Seen result.verdict (seen_report_of result) no_report (mapped report_seen told) }
 {
-    seen::reported(reporter::report_step(run, pauli, number))
+    SeenReport::from(reporter::report_step(run, pauli, number, Caller::Service))
 }
 
 // The log of a chip's frame unit that carries the Pauli. The number is how many bytes it has; what the output held past them
@@ -124,7 +124,7 @@ pub extern "C" fn naribhush_log(run: &[u8], pauli: ActivePauli, out: &mut [u8]) 
     ensures { let did = logging service run.now (active_of pauli) out.old in
         Seen result.verdict result.number 0 did.answer × (out.new ≡ did.lent) }
 {
-    seen::logged(framelog::log_run(run, pauli, out))
+    SeenNumber::from(framelog::log_run(run, pauli, out, Caller::Service))
 }
 
 // Whether a log, whoever made it, is the one that carrying the Pauli gives; 24 where that one has another
@@ -134,7 +134,7 @@ pub extern "C" fn naribhush_judge(run: &[u8], pauli: ActivePauli, log: &[u8]) ->
     ensures { let judged = judging service run.now (active_of pauli) log.now in
         Seen result.verdict result.bit false judged }
 {
-    seen::judged(framelog::judge_log(run, pauli, log))
+    SeenBit::from(framelog::judge_log(run, pauli, log, Caller::Service))
 }
 
 // The Pauli past one step, which may be any: 3, 4 and 10 as carrying looks at them, 14 where no step has the tag or
@@ -143,11 +143,7 @@ pub extern "C" fn naribhush_judge(run: &[u8], pauli: ActivePauli, log: &[u8]) ->
 pub extern "C" fn naribhush_past(pauli: ActivePauli, step: GivenStep) -> SeenPast
     ensures { past_of result ≡ past_seen (given_call (active_of pauli) (given_of step)) }
 {
-    if !given::is_step(step) {
-        return given::none(14);
-    }
-    let row = given::bit_row(step);
-    given::past(passing::past(pauli, given::step(step)), row)
+    SeenPast::from(given::past(pauli, step))
 }
 
 // The whole text that the program `bench` prints of a run.
@@ -157,7 +153,7 @@ pub extern "C" fn naribhush_listing(run: &[u8], out: &mut [u8]) -> SeenNumber
         let old = out.old in
         Seen result.verdict result.number 0 (line_call text old) × (out.new ≡ line_left text old) }
 {
-    seen::text(listing::list_run(run, out))
+    SeenNumber::from(listing::list_run(run, out))
 }
 
 // A line for each step of a run that carries the Pauli, as the program `report` prints them.
@@ -167,7 +163,7 @@ pub extern "C" fn naribhush_list_steps(run: &[u8], pauli: ActivePauli, out: &mut
         let old = out.old in
         Seen result.verdict result.number 0 (line_call text old) × (out.new ≡ line_left text old) }
 {
-    seen::text(reports::list_steps(run, pauli, out))
+    SeenNumber::from(reports::list_steps(run, pauli, out))
 }
 
 #[unsafe(no_mangle)]
@@ -188,10 +184,8 @@ pub extern "C" fn naribhush_serve(
         ledger_of result.ledger ≡ history.after (history.serving call) (ledger_of ledger) }
 {
     let served = ledger.serve(run, re, im, scratch_re, scratch_im);
-    let answer = served.answer;
-    let counts = served.ledger;
     SeenServed {
-        ending: seen::ending(answer),
-        ledger: counts,
+        ending: SeenEnding::from(served.answer),
+        ledger: served.ledger,
     }
 }

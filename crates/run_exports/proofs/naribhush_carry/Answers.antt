@@ -1,8 +1,5 @@
-use Rattle.verdicts.specs.Verdict.{seen_as}
-use borrow.Author.Rules.{rules}
+use Rattle.verdicts.proofs.Seen.{refusal_seen}
 use Rattle.run_exports.proofs.naribhush_carry.Goals as goal
 
 pub returns : goal.returns
-returns c =
-    let done = c.carry_run.ensures in
-    (seen_as c.carried.ensures done.0, done.1)
+returns c = (refusal_seen c.from.ensures c.carry_run.ensures.0, c.carry_run.ensures.1)

@@ -1,8 +1,5 @@
 use Rattle.verdicts.specs.Verdict.{seen_as}
-use borrow.Author.Rules.{rules}
 use Rattle.run_exports.proofs.naribhush_fold.Goals as goal
 
 pub returns : goal.returns
-returns c =
-    let done = c.fold_run.ensures in
-    (seen_as c.folded.ensures done.0, done.1)
+returns c = (seen_as c.from.ensures c.fold_run.ensures.0, c.fold_run.ensures.1)

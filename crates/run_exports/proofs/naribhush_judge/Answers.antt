@@ -1,6 +1,5 @@
-use Rattle.verdicts.specs.Verdict.{seen_as}
-use borrow.Author.Rules.{rules}
+use Rattle.verdicts.proofs.Seen.{refusal_seen}
 use Rattle.run_exports.proofs.naribhush_judge.Goals as goal
 
 pub returns : goal.returns
-returns c = seen_as c.judged.ensures c.judge_log.ensures
+returns c = refusal_seen c.from.ensures c.judge_log.ensures

@@ -1,6 +1,5 @@
-use Rattle.verdicts.specs.Verdict.{seen_as}
-use borrow.Author.Rules.{rules}
+use Rattle.verdicts.proofs.Seen.{row_seen}
 use Rattle.run_exports.proofs.naribhush_listing.Goals as goal
 
 pub returns : goal.returns
-returns c = (seen_as c.text.ensures c.list_run.ensures.told, c.list_run.ensures.buffer)
+returns c = (row_seen c.from.ensures c.list_run.ensures.told, c.list_run.ensures.buffer)

@@ -1,8 +1,5 @@
-use Rattle.verdicts.specs.Verdict.{seen_as}
-use borrow.Author.Rules.{rules}
+use Rattle.verdicts.proofs.Seen.{refusal_seen}
 use Rattle.run_exports.proofs.naribhush_log.Goals as goal
 
 pub returns : goal.returns
-returns c =
-    let done = c.log_run.ensures in
-    (seen_as c.logged.ensures done.0, done.1)
+returns c = (refusal_seen c.from.ensures c.log_run.ensures.0, c.log_run.ensures.1)

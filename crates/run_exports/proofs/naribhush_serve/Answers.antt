@@ -1,8 +1,7 @@
 use Rattle.verdicts.specs.Verdict.{seen_as}
-use borrow.Author.Rules.{rules}
 use Rattle.run_exports.proofs.naribhush_serve.Goals as goal
 
 pub returns : goal.returns
 returns c =
     let done = c.serve-served.ensures in
-    record { fact = (seen_as c.ending.ensures done.fact.0, done.fact.1); ledger_value = done.ledger_value }
+    record { fact = (seen_as c.from.ensures done.fact.0, done.fact.1); ledger_value = done.ledger_value }

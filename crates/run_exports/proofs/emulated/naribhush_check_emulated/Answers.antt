@@ -1,6 +1,5 @@
 use Rattle.verdicts.specs.Verdict.{seen_as}
-use borrow.Author.Rules.{rules}
 use Rattle.run_exports.proofs.emulated.naribhush_check_emulated.Goals as goal
 
 pub returns : goal.returns
-returns c = seen_as c.survey.ensures c.check_emulated.ensures
+returns c = seen_as c.from.ensures c.check_run.ensures

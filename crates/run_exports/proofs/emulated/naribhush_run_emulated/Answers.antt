@@ -1,8 +1,5 @@
 use Rattle.verdicts.specs.Verdict.{seen_as}
-use borrow.Author.Rules.{rules}
 use Rattle.run_exports.proofs.emulated.naribhush_run_emulated.Goals as goal
 
 pub returns : goal.returns
-returns c =
-    let done = c.run_emulated.ensures in
-    (seen_as c.ending.ensures done.0, done.1)
+returns c = (seen_as c.from.ensures c.run_contiguous.ensures.0, c.run_contiguous.ensures.1)

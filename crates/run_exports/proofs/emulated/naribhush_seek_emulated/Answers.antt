@@ -1,6 +1,5 @@
-use Rattle.verdicts.specs.Verdict.{seen_as}
-use borrow.Author.Rules.{rules}
+use Rattle.verdicts.proofs.Seen.{refusal_seen}
 use Rattle.run_exports.proofs.emulated.naribhush_seek_emulated.Goals as goal
 
 pub returns : goal.returns
-returns c = seen_as c.sought.ensures c.seek_emulated.ensures
+returns c = refusal_seen c.from.ensures c.seek_start.ensures

@@ -1,7 +1,6 @@
-use mathlib.Core.Path.{◌∙◌}
+use Rattle.std.proofs.Common.{◌∙◌}
 use borrow.Author.Tests.{ne_eqb}
 use Rattle.run_exports.proofs.Bits.{rotation_bit, projection_bit, no_bit}
-use borrow.Author.Rules.{rules}
 use Rattle.run_exports.proofs.given.bit_row.Goals as goal
 
 pub returns-then-given-eq-ROTATION : goal.returns-then-given-eq-ROTATION

@@ -1,6 +1,5 @@
-use mathlib.Core.Path.{ap, ◌∙◌}
+use Rattle.std.proofs.Common.{ap, ◌∙◌}
 use Rattle.run_exports.specs.Reading.{pauli_seen}
-use borrow.Author.Rules.{rules}
 use Rattle.run_exports.proofs.seen.bare.Goals as goal
 
 pub returns : goal.returns

@@ -1,6 +1,6 @@
 use borrow.Author.Tests.{eq-eqb, ne_eqb}
 use Rattle.run_exports.specs.Reading.{step_back}
-use Rattle.run_exports.proofs.given.step.Goals as goal
+use Rattle.run_exports.proofs.given.StepFromGivenStep.from.Goals as goal
 
 pub returns-then-given-eq-ROTATION : goal.returns-then-given-eq-ROTATION
 unfolding step_back

@@ -1,5 +1,4 @@
-use borrow.Author.Rules.{rules}
-use Rattle.run_exports.proofs.seen.step.Goals as goal
+use Rattle.run_exports.proofs.seen.SeenFieldFromStep.from.Goals as goal
 
 pub returns-in-Rotation : goal.returns-in-Rotation
 returns-in-Rotation c = rw c.in-Rotation.is

@@ -1,78 +1,89 @@
 // Logs of frames: written, judged, and judged when they are damaged.
-use crate::write;
+use crate::name::Call;
 use activepauli::ActivePauli;
-use framelog::{JudgeAnswer, LogAnswer};
-use pauli_calls::show;
+use callers::Caller;
+use kernel_calls::read;
+use pauli_calls::{form, show};
+use refusals::{Refusal, RowAt};
+use report_calls::{numbers, write};
 use run_text::line;
 
-pub(crate) fn written(call: u8, run: &[u8], pauli: ActivePauli, out: &mut [u8]) {
-    write::logged(log(call, run, pauli, out), out);
-}
-
-fn log(call: u8, run: &[u8], pauli: ActivePauli, out: &mut [u8]) -> LogAnswer {
-    if call < b'a' {
-        return framelog::log_emulated(run, pauli, out);
+// Behind the run stand the log, where it is judged, then a Pauli and, but for that call, one more number.
+pub(crate) fn call(call: Call, text: &[u8], caller: Caller) -> Option<()> {
+    let mut space = run_text::room(0);
+    let (run, rest) = run_text::first(text, &mut space)?;
+    match call {
+        Call::Log => written(run, numbers(rest, 5)?, caller),
+        Call::Judge => judged(run, rest, caller),
+        Call::Damaged => damaged(run, numbers(rest, 5)?, caller),
     }
-    framelog::log_run(run, pauli, out)
 }
 
-pub(crate) fn judged(call: u8, run: &[u8], pauli: ActivePauli, log: &[u8]) {
-    write::judged(judge(call, run, pauli, log));
+// The log is lent an output of the length that a word says.
+fn written(run: &[u8], words: [u64; 12], caller: Caller) -> Option<()> {
+    let mut space = report_calls::dots();
+    let out = space.get_mut(..form::index(words[4]))?;
+    write::length(framelog::log_run(run, read::pauli(words, 0), out, caller));
+    write::bar();
+    show::number(out.len() as u64);
+    line::bytes(out);
+    Some(())
 }
 
-fn judge(call: u8, run: &[u8], pauli: ActivePauli, log: &[u8]) -> JudgeAnswer {
-    if call < b'a' {
-        return framelog::judge_emulated(run, pauli, log);
-    }
-    framelog::judge_log(run, pauli, log)
+// The log is bytes in text as the run is.
+fn judged(run: &[u8], text: &[u8], caller: Caller) -> Option<()> {
+    let mut space = run_text::room(0);
+    let (log, rest) = run_text::first(text, &mut space)?;
+    let pauli = read::pauli(numbers(rest, 4)?, 0);
+    show::answer(
+        framelog::judge_log(run, pauli, log, caller),
+        |right| write::word(if right { b"yes" } else { b"no" }),
+    );
+    Some(())
 }
 
 // The right log and others near it, which differ from it by what a word says.
-pub(crate) fn damaged(call: u8, run: &[u8], pauli: ActivePauli, word: u64) {
-    if 255 < word {
-        show::unread();
-        return;
-    }
+fn damaged(run: &[u8], words: [u64; 12], caller: Caller) -> Option<()> {
+    let pauli = read::pauli(words, 0);
+    let xor = u8::try_from(words[4]).ok()?;
     let mut space = run_text::room(0);
-    written_and_damaged(call, run, pauli, word as u8, &mut space);
-}
-
-fn written_and_damaged(call: u8, run: &[u8], pauli: ActivePauli, xor: u8, space: &mut [u8]) {
-    match log(call, run, pauli, space) {
-        LogAnswer::Logged(size) => around(call, run, pauli, xor, space, size),
-        LogAnswer::Refused(row) => show::refused(row),
-        LogAnswer::RefusedAt(row, at) => line::refused_at(row, at),
+    match framelog::log_run(run, pauli, &mut space, caller) {
+        Ok(size) => around(run, pauli, xor, &mut space, size, caller),
+        Err(refusal) => show::refused(refusal),
     }
+    Some(())
 }
 
 // The log is the first bytes of the space: it, damaged in each byte, one byte short, one byte long.
-fn around(call: u8, run: &[u8], pauli: ActivePauli, xor: u8, space: &mut [u8], size: usize) {
-    if size == 0 {
+fn around(run: &[u8], pauli: ActivePauli, xor: u8, space: &mut [u8], size: usize, caller: Caller) {
+    if (size == 0) | (space.len() <= size) {
         return;
     }
-    if space.len() <= size {
-        return;
-    }
-    let short = size - 1;
-    let long = size + 1;
-    write::log_size(size);
-    shortly(call, run, pauli, &space[0..size]);
-    each_byte(call, run, pauli, xor, &mut space[0..size]);
-    shortly(call, run, pauli, &space[0..short]);
-    shortly(call, run, pauli, &space[0..long]);
+    write::size(size);
+    write::bar();
+    shortly(run, pauli, &space[..size], caller);
+    each_byte(run, pauli, xor, &mut space[..size], caller);
+    shortly(run, pauli, &space[..size - 1], caller);
+    shortly(run, pauli, &space[..=size], caller);
 }
 
-fn each_byte(call: u8, run: &[u8], pauli: ActivePauli, xor: u8, log: &mut [u8]) {
-    let mut i = 0;
-    while i < log.len() {
+fn each_byte(run: &[u8], pauli: ActivePauli, xor: u8, log: &mut [u8], caller: Caller) {
+    for i in 0..log.len() {
         let kept = log[i];
         log[i] = kept ^ xor;
-        shortly(call, run, pauli, log);
+        shortly(run, pauli, log, caller);
         log[i] = kept;
-        i += 1;
     }
 }
 
-fn shortly(call: u8, run: &[u8], pauli: ActivePauli, log: &[u8]) {
-    write::judged_shortly(judge(call, run, pauli, log));
+// The verdict in a letter, or the row between < and >.
+fn shortly(run: &[u8], pauli: ActivePauli, log: &[u8], caller: Caller) {
+    match framelog::judge_log(run, pauli, log, caller) {
+        Ok(right) => show::byte(if right { b'y' } else { b'n' }),
+        Err(Refusal::Whole(row) | Refusal::At(RowAt { row, .. })) => {
+            show::byte(b'<');
+            show::number(u64::from(u8::from(row)));
+            show::byte(b'>');
+        }
+    }
 }

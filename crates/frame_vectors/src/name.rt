@@ -1,47 +1,21 @@
-// The names of the calls, and how many numbers each takes behind its run, or behind its log.
+// The names of the calls on logs; report_calls knows the others.
+use callers::Caller;
 
-// A letter for each call, 0 for a name that none has. The emulator's are capitals.
-pub(crate) fn call(name: &[u8]) -> u8 {
-    report_call(name) | text_call(name) | log_call(name)
+#[derive(Clone, Copy)]
+pub(crate) enum Call {
+    Log,
+    Judge,
+    Damaged,
 }
 
-fn report_call(name: &[u8]) -> u8 {
-    named(name, b"report", b'r')
-        | named(name, b"emulated-report", b'R')
-        | named(name, b"reports", b's')
-        | named(name, b"emulated-reports", b'S')
-        | named(name, b"find", b'f')
-}
-
-fn text_call(name: &[u8]) -> u8 {
-    named(name, b"line", b'l') | named(name, b"lines", b'm') | named(name, b"input", b'i')
-}
-
-fn log_call(name: &[u8]) -> u8 {
-    named(name, b"log", b'g')
-        | named(name, b"emulated-log", b'G')
-        | named(name, b"judge", b'j')
-        | named(name, b"emulated-judge", b'J')
-        | named(name, b"damaged", b'd')
-        | named(name, b"emulated-damaged", b'D')
-}
-
-// The letter, if the name is this one. At most one is, so the letters are put together by `|`.
-fn named(name: &[u8], this: &[u8], letter: u8) -> u8 {
-    if check::same(name, this) { letter } else { 0 }
-}
-
-// A Pauli is four numbers. 98 where there is no such call.
-pub(crate) fn arity(call: u8) -> usize {
-    match call {
-        b'i' => 1,
-        b's' | b'S' | b'j' | b'J' => 4,
-        b'r' | b'R' | b'f' | b'm' | b'g' | b'G' | b'd' | b'D' => 5,
-        b'l' => 6,
-        _ => 98,
+pub(crate) fn named(name: &[u8]) -> Option<(Call, Caller)> {
+    match name {
+        b"log" => Some((Call::Log, Caller::Service)),
+        b"emulated-log" => Some((Call::Log, Caller::Emulator)),
+        b"judge" => Some((Call::Judge, Caller::Service)),
+        b"emulated-judge" => Some((Call::Judge, Caller::Emulator)),
+        b"damaged" => Some((Call::Damaged, Caller::Service)),
+        b"emulated-damaged" => Some((Call::Damaged, Caller::Emulator)),
+        _ => None,
     }
-}
-
-pub(crate) fn takes_log(call: u8) -> bool {
-    (call == b'j') | (call == b'J')
 }

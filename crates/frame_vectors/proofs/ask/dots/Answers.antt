@@ -1,8 +1,0 @@
--- `frame_vectors::ask::dots` meets its contract, by a lemma: the search would count the bytes one by one.
-use Prim.Native.Nat.{ℕ}
-use mathlib.Core.Path.{sym}
-use lib.ListN.{length-replicate}
-use Rattle.frame_vectors.proofs.ask.dots.Goals as goal
-
-pub returns : goal.returns
-returns c = sym (length-replicate {A = ℕ} 262144 46)

@@ -68,29 +68,20 @@ fn log_row(pauli: ActivePauli, width: usize, refused: bool, own: Row) -> Result<
     refuse_if(refused, own)
 }
 
-// Whether a log as long as the right one is the right one.
+// Whether a log as long as the right one is the right one, which is made in a buffer of fixed size: no heap.
 fn is_right(run: &[u8], pauli: ActivePauli, log: &[u8], limits: Limits) -> bool
     requires on_start { OnStart (limits_of limits) run.now (active_of pauli) }
     requires log_len { length log.now ≡ length (log_in (limits_of limits) run.now (active_of pauli)) }
     ensures { result ≡ is_same log.now (log_in (limits_of limits) run.now (active_of pauli)) }
 {
-    let size = log.len();
     let mut space = zeros();
-    compared(run, pauli, log, &mut space[0..size], limits)
+    let right = &mut space[..log.len()];
+    walk::write_log(run, pauli, right, limits);
+    log == right
 }
 
 fn zeros() -> [u8; LONGEST_LOG]
     ensures { 2201 ≡ length result }
 {
     [0; LONGEST_LOG]
-}
-
-// The log beside the right one, which is written to `right`, as long as it is.
-fn compared(run: &[u8], pauli: ActivePauli, log: &[u8], right: &mut [u8], limits: Limits) -> bool
-    requires on_start { OnStart (limits_of limits) run.now (active_of pauli) }
-    requires right_len { length right.old ≡ length (log_in (limits_of limits) run.now (active_of pauli)) }
-    ensures { result ≡ is_same log.now (log_in (limits_of limits) run.now (active_of pauli)) }
-{
-    walk::write_log(run, pauli, right, limits);
-    log == right
 }

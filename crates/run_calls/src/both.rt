@@ -1,4 +1,4 @@
-// Demand 3 on one run, Pauli and state, for either caller: the Pauli fired and then the run, against the carried run and
+// The frame theorem on one run, Pauli and state, for either caller: the Pauli fired and then the run, against the carried run and
 // then the end Pauli fired. The buffers of the two sides differ past the given entries, which plays no part.
 ghost use Rattle.std.specs.Prelude.{◌≤◌};
 

@@ -1,4 +1,4 @@
-// Both listings of E6, on one run, for the service: the run with a Pauli as a correction behind its start field, against
+// Both listings, on one run, for the service: the run with a Pauli as a correction behind its start field, against
 // the carried run with the end Pauli as one before its end field. Each is a file that is listed from basis 0, as bench
 // does; a file that is too long for a run is listed too, as the refusal.
 ghost use Rattle.std.specs.Prelude.{◌≡◌, length};

@@ -2,6 +2,7 @@
 use callers::Caller;
 
 // A call is known by its name's last letter, and by the capital if it is the emulator's: `emulated-` stands before it.
+// It stays a letter: a last letter is the whole rule, so an enum would only list each letter once more.
 pub(crate) fn call(name: &[u8]) -> Option<u8> {
     let last = *name.last()?;
     if name.first() == Some(&b'e') {

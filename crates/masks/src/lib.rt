@@ -41,6 +41,8 @@ fn word_with_bit(word: u64, bit: usize, value: bool) -> u64
     if value { set } else { set - one }
 }
 
+// The four words of a mask are written out, here and below: a chain over them would want a law for its fold and say no more.
+
 // How many bits two masks share.
 pub fn shared_ones(a: [u64; 4], b: [u64; 4]) -> u32
     ensures { (result ≡ ones (bit_and (mask a) (mask b))) × (result ≤ 256) }

@@ -2,7 +2,8 @@
 // `nqubits` qubits, qubit q at bit q of `x` and `z`. The fields are public, so each call looks at its
 // Pauli first and refuses by 3 what is none; then by 4 or 5 of the scope's table.
 //
-// The promises are the first layer's own definitions: what `product` or `anti` means there, it means here.
+// The promises are the first layer's own definitions: what `product` or `anti` means there, it means here. The types stay two: C has
+// a struct for each, and a kernel's formulas take a mask as one word, not as an array of one.
 #![tactic(auto)]
 
 ghost use Rattle.std.specs.Prelude.{◌≡◌, ◌<◌};

@@ -1,4 +1,4 @@
--- The masks and shifts of insert_zero_bit, in a word of any size.
+-- The masks and shifts of open_bit, in a word of any size.
 use mathlib.Core.Path.{◌≡◌, sym, ap, ap₂, ◌∙◌, subst}
 use Prim.Native.Nat.{ℕ, ◌+◌, ◌-◌, ◌*◌, ◌/◌, ◌%◌, ◌^◌, ◌≤◌, ◌<◌}
 use native.Mathlib.Nat.{mod-lt, mul_right_comm, add-zero}

@@ -1,5 +1,6 @@
 // Pairs of floats: the coefficients m and w of the kernels, and the amplitudes. Each operation is
-// rounded by itself, in the order of the formulas; nothing is fused.
+// rounded by itself, in the order of the formulas; nothing is fused. They are functions and no `Mul` or `Neg`: an operator would
+// not tell which order of rounding is meant.
 #![tactic(auto)]
 
 pub mod amplitude;

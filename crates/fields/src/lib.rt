@@ -16,7 +16,7 @@ pub const MOST_BYTES: usize = 65536;
 // The bytes before a body: the tag and the body's length.
 const HEAD_BYTES: usize = 3;
 
-// The tag of a start field, and the bytes of the whole field: the steps begin behind them.
+// The tag of a start field, a byte of the format, and the bytes of the whole field: the steps begin behind them.
 pub const START: u8 = 1;
 
 pub const START_BYTES: usize = 4;

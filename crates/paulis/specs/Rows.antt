@@ -37,7 +37,7 @@ module _ {A : Type 0} (P : Pauli) (q : ℕ) (rest : Answer A) {t : Bool} (is : t
   unfolding on_qubit refuse
   a_qubit h l = a_pauli P (refuse (leb P.n q) 5 rest) is h ∙ rw (lt-leb P.n q l)
 
--- the same from the row alone
+-- what is known where no row refuses a qubit
 module _ (P : Pauli) (q : ℕ) where
   pub qubit_passed : qubit_row P q ≡ 0 → Admitted P × (q < P.n)
   unfolding qubit_row

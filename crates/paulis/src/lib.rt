@@ -158,7 +158,7 @@ impl PauliString {
     }
 }
 
-// Constructs identity on `nqubits` qubits.
+// Constructs identity on `nqubits` qubits: the Rust's name beside `PauliString::new`, and its promise stays.
 pub fn pauli_identity(nqubits: usize) -> Result<PauliString, Row>
     ensures { answer_of pauli_of result ≡ identity_call nqubits }
 {

@@ -21,7 +21,7 @@ pub(crate) fn letter(byte: u8) -> Option<Pauli>
     }
 }
 
-// The letter's byte, upper case.
+// The letter's byte, upper case. No `From`, for the same reason.
 fn of_letter(letter: Pauli) -> u8
     ensures { result ≡ byte_of (pauli_letter_of letter) }
 {

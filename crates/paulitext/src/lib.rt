@@ -28,7 +28,7 @@ pub fn pauli_string(ops: &[u8]) -> Result<PauliString, Refusal>
 }
 
 // Writes the text of a Pauli to the start of `out`: the coefficient (nothing, `i*`, `-` or `-i*`),
-// then a letter for each qubit, `I` where there is none.
+// then a letter for each qubit, `I` where there is none. No `Display`: it writes the whole text or nothing, and the promise says so.
 pub fn display(pauli: PauliString, out: &mut [u8]) -> Result<usize, Row>
     ensures { Shown (pauli_of pauli) out.old result out.new }
 {

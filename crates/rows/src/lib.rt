@@ -1,5 +1,5 @@
 // Which row of the scope's table refuses a call on amplitudes or a kernel. Each function here answers for any
-// arguments, so that a call can ask for all its rows and take the first.
+// arguments; a call asks for its rows by `?`, lowest number first.
 #![tactic(auto)]
 
 ghost use Rattle.std.specs.Prelude.{◌≡◌, ◌^◌, leb};

@@ -1,4 +1,4 @@
-// The tag of each kind of field behind the start field.
+// The tag of each kind of field behind the start field. They stay numbers: the bytes of the format, compared as they stand in a run.
 pub const ROTATION: u8 = 2;
 
 pub const PROMOTION: u8 = 3;

@@ -1,4 +1,4 @@
--- the run's length, the cursor's width, then the field
+-- the field, with the run's length, then the cursor's width, then the step
 use borrow.Author.Rules.{rules}
 use mathlib.Core.Path.{refl, ◌∙◌}
 use native.Mathlib.Omega.{arith}

@@ -71,7 +71,8 @@ pub fn check_with_start(run: &[u8], limits: Limits) -> Result<Checked, RowAt>
 fn survey_steps(run: &[u8], width: usize, limits: Limits) -> Result<Survey, RowAt>
     requires { (4 ≤ length run.now) × (length run.now ≤ most_bytes) }
     ensures { let s = run.now in
-        row_at_answer_of survey_fields_of result ≡ mapped (survey width) (walk (limits_of limits) (length s) s (record { at = 4; width = width })) }
+        row_at_answer_of survey_fields_of result
+        ≡ mapped (survey width) (walk (limits_of limits) (length s) s (record { at = 4; width = width })) }
 {
     let mut cursor = Cursor {
         at: fields::START_BYTES,

@@ -7,7 +7,7 @@ use activepauli::ActivePauli;
 use pauli_calls::form;
 use paulis::PauliString;
 
-// A letter for each call.
+// A letter for each call: an enum would name each twice more, here and where it is asked.
 pub(crate) fn call(name: &[u8]) -> Option<u8> {
     match name {
         b"is_pauli" => Some(b'v'),

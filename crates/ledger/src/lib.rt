@@ -63,7 +63,8 @@ impl Ledger {
     ) -> Served
         ensures fact { let m = memory_of re.old im.old scratch_re.old scratch_im.old in
             let did = running service run.now m in
-            (refusal_answer_of finished_of result.answer ≡ did.answer) × (memory_of re.new im.new scratch_re.new scratch_im.new ≡ did.lent) }
+            (refusal_answer_of finished_of result.answer ≡ did.answer)
+            × (memory_of re.new im.new scratch_re.new scratch_im.new ≡ did.lent) }
         ensures ledger_value { let m = memory_of re.old im.old scratch_re.old scratch_im.old in
             let call : history.Call = record { run = run.now; memory = m } in
             ledger_of result.ledger ≡ history.after (history.serving call) (ledger_of self) }
@@ -73,7 +74,7 @@ impl Ledger {
         Served { answer, ledger }
     }
 
-    // Runs for the emulator, and counts nothing.
+    // Runs for the emulator, and counts nothing: two calls, since they count differently.
     pub fn serve_emulated(
         self,
         run: &[u8],
@@ -84,7 +85,8 @@ impl Ledger {
     ) -> Served
         ensures fact { let m = memory_of re.old im.old scratch_re.old scratch_im.old in
             let did = running emulator run.now m in
-            (refusal_answer_of finished_of result.answer ≡ did.answer) × (memory_of re.new im.new scratch_re.new scratch_im.new ≡ did.lent) }
+            (refusal_answer_of finished_of result.answer ≡ did.answer)
+            × (memory_of re.new im.new scratch_re.new scratch_im.new ≡ did.lent) }
         ensures ledger_value { let m = memory_of re.old im.old scratch_re.old scratch_im.old in
             let call : history.Call = record { run = run.now; memory = m } in
             ledger_of result.ledger ≡ history.after (history.emulating call) (ledger_of self) }

@@ -1,4 +1,4 @@
-// Every open call of lines and of listing at its limits. Each is lent a buffer of dots; the answer is written
+// Every call of lines that makes a whole line, and listing's, at their limits. Each is lent a buffer of dots; the answer is written
 // on a line, and then the whole buffer. The file stdout beside this folder was derived by hand from the scope.
 #![tactic(auto)]
 

@@ -38,8 +38,8 @@ impl<E> From<Result<Pauli, E>> for SeenLetter
 where
     Verdict: From<E>,
 {
-    ghost from_gives = { λ answer seen.
-        ResultSeen ⟦<Verdict as From<E>>⟧.from_gives pauli_letter_of seen.verdict (letter_of (bit_of seen.x) (bit_of seen.z)) Letter-as-I answer };
+    ghost from_gives = { λ answer seen. let letter = letter_of (bit_of seen.x) (bit_of seen.z) in
+        ResultSeen ⟦<Verdict as From<E>>⟧.from_gives pauli_letter_of seen.verdict letter Letter-as-I answer };
 
     fn from(answer: Result<Pauli, E>) -> SeenLetter {
         let (verdict, letter) = verdict_and_value(answer, Pauli::I);

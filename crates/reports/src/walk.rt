@@ -1,4 +1,4 @@
-// The lines of all steps, over a run that was checked; or only their length.
+// The lines of all steps, over a run that was checked, put where they fit.
 ghost use Rattle.std.specs.Prelude.{◌≡◌, true, ◌+◌, ◌≤◌, ◌<◌, ◌^◌, Float, length};
 ghost use Rattle.activepauli.specs.Active.{active_of};
 ghost use Rattle.framelaws.specs.Caller.{service};

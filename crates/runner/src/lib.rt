@@ -98,7 +98,8 @@ fn run_steps(
     }
 }
 
-// One step at this width: no row refuses it. The four buffers stay four, as each kernel takes them: a struct of them would be taken apart here.
+// One step at this width: no row refuses it. The four buffers stay four, as each kernel takes them: a struct of them would
+// be taken apart here.
 fn take_step(
     step: Step,
     width: usize,

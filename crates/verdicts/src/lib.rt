@@ -110,7 +110,8 @@ impl<E> From<Result<bool, E>> for SeenBit
 where
     Verdict: From<E>,
 {
-    ghost from_gives = { λ answer seen. ResultSeen ⟦<Verdict as From<E>>⟧.from_gives (λ bit. bit) seen.verdict seen.bit false answer };
+    ghost from_gives = { λ answer seen.
+        ResultSeen ⟦<Verdict as From<E>>⟧.from_gives (λ bit. bit) seen.verdict seen.bit false answer };
 
     fn from(answer: Result<bool, E>) -> SeenBit {
         let (verdict, bit) = verdict_and_value(answer, false);
@@ -130,7 +131,8 @@ impl<E> From<Result<usize, E>> for SeenNumber
 where
     Verdict: From<E>,
 {
-    ghost from_gives = { λ answer seen. ResultSeen ⟦<Verdict as From<E>>⟧.from_gives (λ number. number) seen.verdict seen.number 0 answer };
+    ghost from_gives = { λ answer seen.
+        ResultSeen ⟦<Verdict as From<E>>⟧.from_gives (λ number. number) seen.verdict seen.number 0 answer };
 
     fn from(answer: Result<usize, E>) -> SeenNumber {
         let (verdict, number) = verdict_and_value(answer, 0);
@@ -142,7 +144,8 @@ impl<E> From<Result<u8, E>> for SeenNumber
 where
     Verdict: From<E>,
 {
-    ghost from_gives = { λ answer seen. ResultSeen ⟦<Verdict as From<E>>⟧.from_gives (λ number. number) seen.verdict seen.number 0 answer };
+    ghost from_gives = { λ answer seen.
+        ResultSeen ⟦<Verdict as From<E>>⟧.from_gives (λ number. number) seen.verdict seen.number 0 answer };
 
     fn from(answer: Result<u8, E>) -> SeenNumber {
         let (verdict, number) = verdict_and_value(answer, 0);

@@ -1,19 +1,19 @@
 -- Four words of 64 bits as a mask: what the code does to the words, it does to the mask.
 use Rattle.std.specs.Prelude.{◌≡◌, Bool, ◌&&◌, List, [], ◌∷◌, length, set}
 use Rattle.std.proofs.Math.Path.{refl, sym, ap}
-use Rattle.std.proofs.Common.{◌∙◌, subst, mod-lt, mod-eq_of_lt, div-add-mod', zero-lt-suc, div-lt_iff_lt-mul, le-div_iff_mul-le, pow_pos, shr_lt, get_or-set_same, lt-ltb, le-ltb}
+use Rattle.std.proofs.Common.{◌∙◌, subst, ⊎_elim, mod-lt, mod-eq_of_lt, div-add-mod', zero-lt-suc, eq-zero-or-pos, div-lt_iff_lt-mul, le-div_iff_mul-le, pow_pos, pow-add, shr_lt, get_or-set_same, lt-ltb, le-ltb}
 use Rattle.std.proofs.Math.Bool.{true, false}
 use Rattle.std.proofs.Math.Option.{none, some}
 use Prim.Native.Nat.{ℕ, zero, suc, ◌+◌, ◌-◌, ◌*◌, ◌/◌, ◌%◌, ◌^◌, ◌≤◌, ◌<◌}
 use native.Mathlib.Omega.{arith}
 use Rattle.std.specs.Int.Bits.{bit_and, bit_or, bit_xor}
-use Rattle.std.proofs.lemmas.Nat.{or_lt}
-use Rattle.std.specs.Int.Count.{ones}
+use Rattle.std.proofs.lemmas.Nat.{or_lt, leading_top}
+use Rattle.std.specs.Int.Count.{ones, count_leading_zeros}
 use lib.Dec.{ltb, eqb}
 use Rattle.std.proofs.Math.ListN.{get_or}
 use Rattle.std.proofs.Math.Seq.{get_or-set_other}
 use Rattle.bitlaws.specs.Digit.{bit_of, digit, put, digit_above, digit_high}
-use Rattle.bitlaws.specs.Highest.{highest, Top}
+use Rattle.bitlaws.specs.Highest.{highest, power_top, Top}
 use Rattle.bitlaws.proofs.Highest.{highest_none, highest_some, highest_top, highest_wider, none_zero}
 use Rattle.bitlaws.specs.Words.{words, total, words_xor, words_or, words_ones, words_at, words_digit, words_put, words_same, words_lt, words_below}
 use Rattle.masks.specs.Mask.{mask, bit_written}
@@ -59,13 +59,37 @@ module _ (a b : List ℕ) (small-a : Small a) (small_b : Small b) where
       let under : bit_or (mask a) (mask b) < 1 * 2 ^ (w * 64) = (div-lt_iff_lt-mul (pow_pos (w * 64))).0 none in
       omega arith
 
+  -- the highest bit of a word that has one, by its leading zeros
+  module _ (w v : ℕ) (is : v ≡ bit_or (get_or a w 0) (get_or b w 0)) (some-bit : v ≡ 0 → ⊥) where
+    small_v : v < 2 ^ 64
+    small_v = subst (λ (n : ℕ). n < 2 ^ 64) (sym is) (small_or w)
+
+    positive : 0 < v
+    positive = ⊎_elim (λ (e : v ≡ 0). absurd (some-bit e)) (λ (p : 0 < v). p) (eq-zero-or-pos v)
+
+    pub word_leading : count_leading_zeros 64 v < 64
+    word_leading = omega (arith, (leading_top 64 v positive small_v).1)
+
+    pub word_top : w < 4 → bit_or (mask a) (mask b) < 2 ^ (suc w * 64) → highest 256 (bit_or (mask a) (mask b)) ≡ some (w * 64 + 64 - count_leading_zeros 64 v - 1)
+    word_top h below =
+        let m : ℕ = bit_or (mask a) (mask b) in
+        let t = leading_top 64 v positive small_v in
+        let j : ℕ = t.0 in
+        let e : m / 2 ^ (w * 64) ≡ v = top_word w h below ∙ sym is in
+        let lead : count_leading_zeros 64 v + suc j ≡ 64 = t.1 in
+        let place : w * 64 + 64 - count_leading_zeros 64 v - 1 ≡ j + w * 64 = omega arith in
+        let low : 2 ^ (j + w * 64) ≤ m = subst (λ (n : ℕ). n ≤ m) (sym (pow-add 2 j (w * 64))) ((le-div_iff_mul-le (pow_pos (w * 64))).0 (omega (arith, t.2))) in
+        let high : m < 2 ^ (suc j + w * 64) = subst (λ (n : ℕ). m < n) (sym (pow-add 2 (suc j) (w * 64))) ((div-lt_iff_lt-mul (pow_pos (w * 64))).0 (omega (arith, t.3))) in
+        let next : suc j + w * 64 ≡ suc (j + w * 64) = omega arith in
+        rw place (highest_some 256 m (j + w * 64) (power_top 256 m (j + w * 64) (omega arith) low (subst (λ (n : ℕ). m < 2 ^ n) next high)))
+
   -- no bit in word w, and the highest bit of word w
   module _ (w : ℕ) (h : w < 4) (below : bit_or (mask a) (mask b) < 2 ^ (suc w * 64)) where
     pub word_none : highest 64 (bit_or (get_or a w 0) (get_or b w 0)) ≡ none → bit_or (mask a) (mask b) < 2 ^ (w * 64)
     word_none e = word_empty w h below (none_zero 64 (bit_or (get_or a w 0) (get_or b w 0)) (small_or w) e)
 
-    pub word_top : (j : ℕ) → highest 64 (bit_or (get_or a w 0) (get_or b w 0)) ≡ some j → highest 256 (bit_or (mask a) (mask b)) ≡ some (64 * w + j)
-    word_top j e =
+    pub word_highest : (j : ℕ) → highest 64 (bit_or (get_or a w 0) (get_or b w 0)) ≡ some j → highest 256 (bit_or (mask a) (mask b)) ≡ some (64 * w + j)
+    word_highest j e =
         let m : ℕ = bit_or (mask a) (mask b) in
         let v : ℕ = bit_or (get_or a w 0) (get_or b w 0) in
         let t : Top 256 v j = highest_top 256 v j (highest_wider 64 256 v (small_or w) (omega arith) ∙ e) in

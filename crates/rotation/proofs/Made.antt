@@ -48,12 +48,12 @@ module _ (P : Pauli) (c s : Float) where
 
   module _ (S : State) where
     -- it was refused, by this row
-    pub kernel_refused : (n : ℕ) → refused n ≡ answered (rotation_kernel_row P c s) (rotation_kernel P c s) → n ≡ rotation_row P c s S
+    pub kernel_refused : (n : ℕ) → refused n ≡ answered (rotation_kernel_row P c s) (rotation_kernel P c s) → (n ≡ rotation_row P c s S) × (0 < n)
     unfolding rotation_row
     kernel_refused n e =
         let told = refused_row (rotation_kernel_row P c s) (rotation_kernel P c s) n e in
         let some_row : 0 < rotation_kernel_row P c s = omega (arith, told.0, told.1) in
-        sym (first_some (rotation_kernel_row P c s) (room_row (room P.n S)) some_row ∙ told.0)
+        (sym (first_some (rotation_kernel_row P c s) (room_row (room P.n S)) some_row ∙ told.0), told.1)
 
     module _ (K : RotationKernel) (e : accepted K ≡ answered (rotation_kernel_row P c s) (rotation_kernel P c s)) where
       passed : rotation_kernel_row P c s ≡ 0

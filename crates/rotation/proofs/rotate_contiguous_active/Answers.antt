@@ -12,7 +12,7 @@ use Rattle.rotation.proofs.rotate_contiguous_active.Goals as goal
 pub returns-in_err-kernel : goal.returns-in_err-kernel
 returns-in_err-kernel c =
     let a = c.args in
-    refused_left _ _ _ _ _ c.from_residual.ensures.1 (kernel_refused (active_of a.pauli) a.c a.s (state_of a.re.now a.im.now) _ c.in_err-kernel.ensures)
+    refused_left _ _ _ _ _ c.from_residual.ensures.1 (kernel_refused (active_of a.pauli) a.c a.s (state_of a.re.now a.im.now) _ c.in_err-kernel.ensures).0
 
 pub returns-in_err-room_row : goal.returns-in_err-room_row
 returns-in_err-room_row c =

@@ -3,7 +3,7 @@ use Rattle.std.specs.Prelude.{◌≡◌, ℕ, suc, ◌-◌, ◌*◌, ◌^◌, �
 use Rattle.std.specs.Int.Bits.{bit_or}
 use Rattle.std.proofs.Common.{Fits, w64, sym, subst, rules, arith}
 use Rattle.masks.specs.Mask.{mask}
-use Rattle.masks.specs.MaskLaws.{Small, or_below, word_none, word_top, none_top}
+use Rattle.masks.specs.MaskLaws.{Small, or_below, word_none, word_highest, none_top}
 use Rattle.bitlaws.proofs.Highest.{highest_top}
 use Rattle.paulis.proofs.support.highest_bit.Goals as goal
 use Rattle.paulis.proofs.support.highest_bit.Goals.{Start, After-highest_bit}
@@ -29,7 +29,7 @@ pub returns-in-Some : goal.returns-in-Some
 returns-in-Some c =
     let s = (goal.at.returns-in-Some c).Start in
     let seen = (goal.at.returns-in-Some c).After-highest_bit in
-    sym (word_top c.args.x c.args.z (small_x s) (small_z s) (c.loop-word.word - 1) (omega arith) (below seen) c.in-Some.bit (sym c.in-Some.ensures))
+    sym (word_highest c.args.x c.args.z (small_x s) (small_z s) (c.loop-word.word - 1) (omega arith) (below seen) c.in-Some.bit (sym c.in-Some.ensures))
 
 pub loop-word-preserved : goal.loop-word-preserved
 loop-word-preserved c =

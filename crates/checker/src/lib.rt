@@ -48,12 +48,7 @@ pub fn check_run(run: &[u8], limits: Limits) -> Result<Survey, RowAt>
 pub fn check_with_start(run: &[u8], limits: Limits) -> Result<Checked, RowAt>
     ensures { row_at_answer_of checked_of result ≡ checking_with_start (limits_of limits) run.now }
 {
-    // Too long, or without a start field.
-    let unbegun = RowAt {
-        row: Row::BadField,
-        at: 0,
-    };
-    let width = fields::start(run).ok_or(unbegun)?;
+    let width = fields::start(run)?;
     if limits.widest() < width {
         return Err(RowAt {
             row: limits.start_row(),

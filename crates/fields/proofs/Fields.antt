@@ -17,12 +17,7 @@ use Rattle.runlaws.specs.Run.{start_width}
 use Rattle.std.specs.List.{slice_range}
 use Rattle.std.proofs.lemmas.List.{get_or-drop}
 use Rattle.std.proofs.lemmas.Slice.{between_to_end}
-use Rattle.std.specs.Prelude.{Result, Ok, Err, Some, None}
-use Rattle.std.specs.Result.{result_ok}
-use Rattle.refusals.specs.Refusal.{row_at_answer_of}
-use Rattle.refusals.specs.declared.RowAt.{RowAt}
-use Rattle.fields.specs.declared.Head as declared
-use Rattle.fields.specs.Meaning.{Head, field_in, place_in, head_of, head_call, body_call}
+use Rattle.fields.specs.Meaning.{Head, field_in, place_in, head_call, body_call, start_call}
 
 -- what is asked for at `at` is the field of this head and this body
 pub field_of : (at : ℕ) (f : Option Field) (tag next : ℕ) (body : List ℕ) → accepted (record { tag = tag; next = next }) ≡ head_call at f → body ≡ body_call f
@@ -126,28 +121,35 @@ unfolding head_call
 field_none at none h = refl
 field_none at (some f) h = absurd (refused_at_accepted h)
 
--- ---- the answer of `field`, asked for its head alone
+-- ---- the start field, as it is answered
 
-module _ (at : ℕ) (f : Option Field) where
-  pub headless : (r : Result declared.Head RowAt) → row_at_answer_of head_of r ≡ head_call at f → result_ok r ≡ None → f ≡ none
-  headless (Ok h) told e = cc
-  headless (Err p) told e = field_none at f told
+-- it stands at 0, and where no field does it is 14 there
+cut_start : (at : ℕ) (f : Option Field) {n i : ℕ} → at ≡ ℕ.zero → refused_at n i ≡ head_call at f → refused_at n i ≡ start_call (start_width f)
+unfolding head_call start_width start_call
+cut_start at none here h = cc
+cut_start at (some f) here h = absurd (refused_at_accepted h)
 
-  pub headed : (r : Result declared.Head RowAt) {h : declared.Head} → row_at_answer_of head_of r ≡ head_call at f → result_ok r ≡ Some h → accepted (head_of h) ≡ head_call at f
-  headed (Ok k) told e = cc
-  headed (Err p) told e = cc
+place_start : (s : List ℕ) → place_in s ℕ.zero ≡ ℕ.zero
+unfolding place_in
+place_start s = either (ltb most_bytes (length s))
+  where
+    either : (q : Bool) → cond q ℕ.zero ℕ.zero ≡ ℕ.zero
+    either true = refl
+    either false = refl
 
--- ---- the width of the start field, as it is answered
+pub start_cut : (s : List ℕ) {n i : ℕ} → refused_at n i ≡ head_call (place_in s 0) (field_in s 0) → refused_at n i ≡ start_call (start_width (field_in s 0))
+start_cut s h = cut_start (place_in s 0) (field_in s 0) (place_start s) h
 
-pub start_tag : (at : ℕ) (f : Option Field) (tag next : ℕ) → accepted (record { tag = tag; next = next }) ≡ head_call at f → (tag ≡ 1 → ⊥) → none ≡ start_width f
-unfolding start_width
+pub start_tag : (at : ℕ) (f : Option Field) (tag next : ℕ) → accepted (record { tag = tag; next = next }) ≡ head_call at f → (tag ≡ 1 → ⊥)
+    → refused_at 14 0 ≡ start_call (start_width f)
+unfolding start_width start_call
 start_tag at f tag next h other = rw (field_of at f tag next (body_call f) h refl, ne_eqb tag 1 other)
 
 module _ (at : ℕ) (f : Option Field) (tag next : ℕ) (body : List ℕ) (h : accepted (record { tag = tag; next = next }) ≡ head_call at f) (b : body ≡ body_call f) (one : tag ≡ 1) where
-  pub start_size : (length body ≡ 1 → ⊥) → none ≡ start_width f
-  unfolding start_width
+  pub start_size : (length body ≡ 1 → ⊥) → refused_at 14 0 ≡ start_call (start_width f)
+  unfolding start_width start_call
   start_size other = rw (field_of at f tag next body h b, eq-eqb tag 1 one, ne_eqb (length body) 1 other)
 
-  pub start_good : length body ≡ 1 → some (byte_at body 0) ≡ start_width f
-  unfolding start_width
+  pub start_good : length body ≡ 1 → accepted (byte_at body 0) ≡ start_call (start_width f)
+  unfolding start_width start_call
   start_good size = rw (field_of at f tag next body h b, eq-eqb tag 1 one, eq-eqb (length body) 1 size)

@@ -29,5 +29,10 @@ unfoldable pub body_call : Option Field → List ℕ
 body_call none = []
 body_call (some f) = f.body
 
+-- the width that the start field gives; it stands at 0, and row 14 is refused there where it gives none
+unfoldable pub start_call : Option ℕ → Answer ℕ
+start_call none = refused_at 14 0
+start_call (some n) = accepted n
+
 abbrev pub head_of : declared.Head → Head
 head_of h = record { tag = h.tag; next = h.next }

@@ -3,10 +3,9 @@
 #![tactic(auto)]
 
 ghost use Rattle.std.specs.Prelude.{◌≡◌};
-ghost use Rattle.refusals.specs.Optional.{option_of};
 ghost use Rattle.refusals.specs.Refusal.{row_at_answer_of};
 ghost use Rattle.runlaws.specs.Run.{start_width};
-ghost use Rattle.fields.specs.Meaning.{field_in, place_in, head_of, head_call, body_call};
+ghost use Rattle.fields.specs.Meaning.{field_in, place_in, head_of, head_call, body_call, start_call};
 
 use refusals::{Row, RowAt};
 
@@ -68,16 +67,18 @@ pub fn body(run: &[u8], at: usize) -> &[u8]
     }
 }
 
-// The width that the first field gives if it is a start field, whatever width.
-pub fn start(run: &[u8]) -> Option<usize>
-    ensures { option_of result ≡ start_width (field_in run.now 0) }
+// The width that the first field gives if it is a start field, whatever width; 14 at 0 where it is none.
+pub fn start(run: &[u8]) -> Result<usize, RowAt>
+    ensures { row_at_answer_of (λ n. n) result ≡ start_call (start_width (field_in run.now 0)) }
 {
-    let head = field(run, 0).ok()?;
+    let row = Row::BadField;
+    let unbegun = Err(RowAt { row, at: 0 });
+    let head = field(run, 0)?;
     if head.tag != START {
-        return None;
+        return unbegun;
     }
     let [width] = body(run, 0) else {
-        return None;
+        return unbegun;
     };
-    Some(usize::from(*width))
+    Ok(usize::from(*width))
 }

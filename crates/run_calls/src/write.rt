@@ -30,10 +30,10 @@ pub(crate) fn field(run: &[u8], at: usize) {
     line::hex(fields::body(run, at));
 }
 
-pub(crate) fn start(width: Option<usize>) {
-    match width {
-        Some(width) => show::number(width as u64),
-        None => word(b"none"),
+pub(crate) fn start(answer: Result<usize, RowAt>) {
+    match answer {
+        Ok(width) => show::number(width as u64),
+        Err(_) => word(b"none"),
     }
 }
 

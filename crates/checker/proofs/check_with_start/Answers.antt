@@ -17,11 +17,10 @@ use Rattle.runlaws.specs.Run.{Run, mapped, walk, start_width, run_of}
 use Rattle.runlaws.specs.Mapped.{mapped_mapped}
 use Rattle.runlaws.specs.WholeRun.{start_read, run_too_wide, run_begun}
 use Rattle.fields.proofs.Started.{started, unstarted}
-use Rattle.refusals.specs.declared.Row.TheVariants.{BadField}
 use Rattle.refusals.proofs.Asked.{refused_at_row}
 use Rattle.checker.proofs.check_with_start.Goals as goal
 
-unbegun : (caller : Caller) (s : List ℕ) → run_of caller s ≡ refused_at 14 0 → refused_at 14 0 ≡ checking_with_start caller s
+unbegun : (caller : Caller) (s : List ℕ) {n i : ℕ} → run_of caller s ≡ refused_at n i → refused_at n i ≡ checking_with_start caller s
 unfolding checking_with_start mapped
 unbegun caller s e = sym (ap (mapped checked_run_of) e)
 
@@ -45,30 +44,26 @@ begun caller s n short e within a is =
     ∙ sym (ap (mapped checked_run_of) (run_begun caller s short n e within) ∙ mapped_mapped checked_run_of whole steps)
 
 pub returns-in_err-width : goal.returns-in_err-width
-returns-in_err-width c =
-    let none = rw c.in_err-width.ensures.ok_part at c.start.ensures in
-    let value = rw c.in_err-width.ensures.ok_part at c.in_err-width.ensures.value in
-    let same : c.in_err-width.field-0.0 ≡ record { row = BadField; at = 0 } = cc in
-    refused_at_row _ _ _ c.from_residual.ensures.1 ∙ rw same (unbegun _ _ (unstarted _ none _))
+returns-in_err-width c = refused_at_row _ _ _ c.from_residual.ensures.1 ∙ unbegun _ _ (unstarted _ c.in_err-width.ensures _)
 
 pub returns-then-widest-width : goal.returns-then-widest-width
 returns-then-widest-width c =
-    let begins = started _ (rw c.in_ok-width.ensures.ok_part at c.start.ensures) in
+    let begins = started _ c.in_ok-width.ensures in
     rw c.start_row.ensures (too_wide _ _ _ begins.0 begins.1 (omega (arith, c.widest.ensures)))
 
 pub survey_steps-requires : goal.survey_steps-requires
 survey_steps-requires c =
-    let begins = started _ (rw c.in_ok-width.ensures.ok_part at c.start.ensures) in
+    let begins = started _ c.in_ok-width.ensures in
     ((start_read _ _ begins.1).begins, begins.0)
 
 pub returns-in_err-survey : goal.returns-in_err-survey
 unfolding mapped beside
 returns-in_err-survey c =
-    let begins = started _ (rw c.in_ok-width.ensures.ok_part at c.start.ensures) in
+    let begins = started _ c.in_ok-width.ensures in
     refused_at_row _ _ _ c.from_residual-in_err-survey.ensures.1 ∙ begun _ _ _ begins.0 begins.1 (omega (arith, c.widest.ensures)) _ c.in_err-survey.ensures
 
 pub returns : goal.returns
 unfolding mapped beside
 returns c =
-    let begins = started _ (rw c.in_ok-width.ensures.ok_part at c.start.ensures) in
+    let begins = started _ c.in_ok-width.ensures in
     begun _ _ _ begins.0 begins.1 (omega (arith, c.widest.ensures)) _ c.in_ok-survey.ensures

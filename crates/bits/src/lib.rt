@@ -51,11 +51,13 @@ pub fn insert_zero_bit(packed: usize, bit: usize) -> Result<usize, Row>
     Ok(open_bit(packed, bit))
 }
 
-// The same for a position that the caller knows to lie in the word.
+// The same without a refusal: behind the word there is nothing to move.
 pub fn open_bit(packed: usize, bit: usize) -> usize
-    requires { bit < 64 }
     ensures { result ≡ law.open_bit bit packed % 2 ^ 64 }
 {
+    if 64 <= bit {
+        return packed;
+    }
     let low_mask = (1usize << bit) - 1;
     (packed & low_mask) | ((packed & !low_mask) << 1)
 }

@@ -2,6 +2,7 @@
 // first 2^n amplitudes. What lies past them is kept.
 #![tactic(auto)]
 
+mod amplitude;
 mod moves;
 
 ghost use Rattle.std.specs.Prelude.{◌≡◌, ◌≤◌, ◌<◌, ◌^◌};

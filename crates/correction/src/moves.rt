@@ -8,8 +8,7 @@ ghost use Rattle.amplitudelaws.specs.Lent.{Room};
 ghost use Rattle.amplitudelaws.specs.State.{point, written, state_of};
 ghost use Rattle.activepauli.specs.Active.{active_of};
 
-use crate::Pulse;
-use complex::amplitude;
+use crate::{Pulse, amplitude};
 
 impl Pulse {
     pub(crate) fn correct(self, re: &mut [f64], im: &mut [f64])

@@ -23,7 +23,7 @@ pub(crate) fn call(call: Call, text: &[u8], caller: Caller) -> Option<()> {
 fn written(run: &[u8], words: [u64; 12], caller: Caller) -> Option<()> {
     let mut space = report_calls::dots();
     let out = space.get_mut(..form::index(words[4]))?;
-    write::length(framelog::log_run(run, read::pauli(words, 0), out, caller));
+    write::length(framelog::log_run(run, read::first_pauli(words), out, caller));
     write::bar();
     show::number(out.len() as u64);
     line::bytes(out);
@@ -34,7 +34,7 @@ fn written(run: &[u8], words: [u64; 12], caller: Caller) -> Option<()> {
 fn judged(run: &[u8], text: &[u8], caller: Caller) -> Option<()> {
     let mut space = run_text::room(0);
     let (log, rest) = run_text::first(text, &mut space)?;
-    let pauli = read::pauli(numbers(rest, 4)?, 0);
+    let pauli = read::first_pauli(numbers(rest, 4)?);
     show::answer(
         framelog::judge_log(run, pauli, log, caller),
         |right| write::word(if right { b"yes" } else { b"no" }),
@@ -44,7 +44,7 @@ fn judged(run: &[u8], text: &[u8], caller: Caller) -> Option<()> {
 
 // The right log and others near it, which differ from it by what a word says.
 fn damaged(run: &[u8], words: [u64; 12], caller: Caller) -> Option<()> {
-    let pauli = read::pauli(words, 0);
+    let pauli = read::first_pauli(words);
     let xor = u8::try_from(words[4]).ok()?;
     let mut space = run_text::room(0);
     match framelog::log_run(run, pauli, &mut space, caller) {

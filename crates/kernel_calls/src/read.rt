@@ -1,7 +1,7 @@
 // The arguments in a line. After the call's name come words, a space before each: numbers in decimal,
 // masks and floats in hexadecimal after 0x. The lent buffers follow, ` |` before each; their words are
 // floats, each a space and 16 hexadecimal digits. A Pauli is four words: width, phase, x and z.
-ghost use Rattle.std.specs.Prelude.{◌≤◌};
+ghost use Rattle.std.specs.Prelude.{◌≤◌, IfSome, length};
 
 use activepauli::ActivePauli;
 use pauli_calls::form;
@@ -87,15 +87,17 @@ pub fn words(text: &[u8]) -> Option<([u64; 12], usize)> {
 
 // Reads the buffer that the bar at the start of a text begins, up to the next bar or the end: the floats, written to
 // the start of `out`, and what follows.
-pub fn floats<'a, 'b>(text: &'a [u8], out: &'b mut [f64]) -> Option<(&'b mut [f64], &'a [u8])> {
+pub fn floats<'a, 'b>(text: &'a [u8], out: &'b mut [f64]) -> Option<(&'b mut [f64], &'a [u8])>
+    ensures { IfSome result (λ read. (length read.0.now ≤ length out.old) × (length read.1.now ≤ length text.now)) }
+{
     if text.is_empty() {
         return None;
     }
     let next = octets::scan::find(text, 1, text.len(), b'|');
     let mut words = [0; 160];
     let count = form::words(trimmed(&text[1..next]), &mut words);
-    for (to, word) in out.iter_mut().zip(words) {
-        *to = float(word);
+    for (to, word) in out.iter_mut().zip(words.iter()) {
+        *to = float(*word);
     }
     Some((out.get_mut(..count?)?, &text[next..]))
 }
@@ -110,7 +112,7 @@ pub(crate) fn float(bits: u64) -> f64 {
 }
 
 // The Pauli in word k and the three after it.
-pub fn pauli(words: [u64; 12], k: usize) -> ActivePauli
+pub(crate) fn pauli(words: [u64; 12], k: usize) -> ActivePauli
     requires { k ≤ 8 }
 {
     ActivePauli {
@@ -119,6 +121,16 @@ pub fn pauli(words: [u64; 12], k: usize) -> ActivePauli
         z: words[k + 3],
         phase: form::phase(words[k + 1]),
     }
+}
+
+// The Pauli in the first four words.
+pub fn first_pauli(words: [u64; 12]) -> ActivePauli {
+    pauli(words, 0)
+}
+
+// The one in the four behind these.
+pub fn second_pauli(words: [u64; 12]) -> ActivePauli {
+    pauli(words, 4)
 }
 
 // The Pauli in the first ten words, with four words a mask.

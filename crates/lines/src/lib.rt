@@ -98,19 +98,9 @@ fn part(x: f64, at: usize, out: &mut [u8]) -> usize
 }
 
 // Puts a text at `at`, and answers where it ends.
-pub fn put(text: &[u8], at: usize, out: &mut [u8]) -> usize
+fn put(text: &[u8], at: usize, out: &mut [u8]) -> usize
     requires { at + length text.now ≤ length out.old }
     ensures { Stored text.now at out.old result out.new }
 {
     at + octets::copy(text, &mut out[at..])
-}
-
-// So a number in decimal.
-pub fn put_number(n: u64, at: usize, out: &mut [u8]) -> usize
-    requires { at + length (decimal n) ≤ length out.old }
-    ensures { Stored (decimal n) at out.old result out.new }
-{
-    let mut digits = [0u8; 20];
-    let count = io::decimal(n, &mut digits);
-    put(&digits[..count], at, out)
 }

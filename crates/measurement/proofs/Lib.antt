@@ -1,3 +1,4 @@
+pub mod Eight
 pub mod Opened
 pub mod Leaving
 pub mod Passing

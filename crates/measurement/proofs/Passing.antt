@@ -1,9 +1,9 @@
 -- What the rows of a call let pass, and what a Pauli's kernel leaves in the definitions that the calls cite.
-use mathlib.Core.Path.{◌≡◌, refl, sym, ap, ◌∙◌, subst}
+use mathlib.Core.Path.{◌≡◌, refl, sym, ap, ◌∙◌}
 use mathlib.Core.Bool.{Bool, true, false, cond, not, ◌&&◌, ◌||◌}
-use Prim.Native.Nat.{ℕ, ◌-◌, ◌^◌}
+use Prim.Native.Nat.{ℕ, ◌-◌, ◌^◌, ◌<◌}
 use native.Mathlib.Omega.{arith}
-use lib.Dec.{eqb, lit<}
+use lib.Dec.{ltb, eqb, lit<}
 use lib.Ieee.{Float}
 use lib.Ieee.Scale.{finite}
 use borrow.Author.Tests.{not-false}
@@ -11,7 +11,7 @@ use Rattle.answers.specs.Answer.Answer.{refused}
 use Rattle.std.specs.Prelude.{Result}
 use Rattle.std.specs.Result.{IsErrAnd}
 use Rattle.answers.specs.Outcome.{finished}
-use Rattle.answers.specs.Row.{row_passed, first_some, first_none, first_passed, answered, answered_some, left, left_some, refused_row}
+use Rattle.answers.specs.Row.{row, row_passed, first, first_some, first_none, first_passed, answered, answered_some, left, left_some, refused_row, first_nothing}
 use Rattle.refusals.specs.declared.Row.{Row}
 use Rattle.refusals.specs.Refusal.{number_of}
 use Rattle.refusals.proofs.Asked.{number_some, asked}
@@ -27,12 +27,14 @@ use Rattle.amplitudelaws.specs.Passed.{room_lengths}
 use Rattle.amplitudelaws.proofs.Passed.{measurement_passed}
 use Rattle.amplitudelaws.specs.Probability.{mass, squared, total}
 use Rattle.amplitudelaws.specs.Projection.{minus, projected, projection_coefficient, remaining, remaining_by}
-use Rattle.amplitudelaws.specs.Rows.{pivot_mask, measurement_row}
+use Rattle.amplitudelaws.specs.Rows.{widest_kernel, hermitian_row, pivot_mask, pivot_row, measurement_row}
 use Rattle.amplitudelaws.specs.Rows.{room_row, projection_row, probability_row}
 use Rattle.amplitudelaws.specs.State.{State, point, room, written, HasRoom}
 use Rattle.amplitudelaws.specs.Steps.{projection, scratch_after, scratch_by, probability}
 use Rattle.kernels.specs.Kernel.{MeasurementKernel, measurement_kernel, pauli_action}
 use Rattle.measurement.specs.Measured.{kernel_remaining, kernel_projected, kernel_scratch, kernel_memory, kernel_mass, Projectable}
+use Rattle.measurement.specs.Rows.{with_eight, kernel_row}
+use Rattle.measurement.proofs.Eight.{eight_some, measurement_unfit}
 
 either_other : (t u : Bool) → (t || u) ≡ true → t ≡ false → u ≡ true
 either_other true u e f = absurd (let z : ◌≡◌ {A = ℕ} 0 1 = cc in omega arith)
@@ -51,6 +53,20 @@ pub refused_left : {A : Type 0} (R : ℕ) (new m : Memory) (x : Result A Row) (e
 refused_left R new m x e h is =
     (asked x e R (λ done. finished) finished h is, sym (left_some R new m (omega (arith, is, number_some e))))
 
+-- what the rows behind a kernel let pass
+pub kernel_rooms : (K : MeasurementKernel) (invnorm : Float) (m : Memory) → kernel_row K invnorm m ≡ 0
+    → HasRoom K.action.n m.state × (K.diagonal ≡ false → HasRoom (K.action.n - 1) m.scratch)
+unfolding kernel_row room_row
+kernel_rooms K invnorm m e =
+    let state = room K.action.n m.state in
+    let scratch = room (K.action.n - 1) m.scratch in
+    let other = K.diagonal || scratch in
+    let thirteen = (first_passed (row (not (finite invnorm)) 8 0) _ e).1 in
+    let enough = not-false (state && other) (row_passed (not (state && other)) 13 0 (lit< tt) thirteen).0 in (
+      room_is K.action.n m.state (both_left state other enough),
+      λ mixing. room_is (K.action.n - 1) m.scratch (either_other K.diagonal scratch (both_right state other enough) mixing),
+    )
+
 module _ (M : Pauli) (p : ℕ) where
   -- the kernel of a Pauli that no row refuses
   pub row_projectable : measurement_row M p false ≡ 0 → Projectable (measurement_kernel M p)
@@ -59,38 +75,28 @@ module _ (M : Pauli) (p : ℕ) where
       let passed = measurement_passed M p false e in
       record { narrow = passed.0; outputs = refl; pivoted = passed.2 }
 
-  -- a kernel of such a Pauli is not refused
-  pub row_unrefused : measurement_row M p false ≡ 0 → (n : ℕ) → refused n ≡ answered (measurement_row M p false) (measurement_kernel M p) → ⊥
-  row_unrefused none n q =
-      let told = refused_row (measurement_row M p false) (measurement_kernel M p) n q in
-      absurd (omega (arith, none, told.0, told.1))
+  module _ (invnorm : Float) (m : Memory) where
+    -- a projection whose kernel is refused, and one whose kernel is not
+    pub projection_refused : (n : ℕ) → refused n ≡ answered (measurement_row M p false) (measurement_kernel M p)
+        → (with_eight n invnorm ≡ projection_row M p invnorm m.state m.scratch) × (0 < with_eight n invnorm)
+    unfolding projection_row with_eight
+    projection_refused n q =
+        let told = refused_row (measurement_row M p false) (measurement_kernel M p) n q in
+        let some : 0 < cond (ltb 8 n && not (finite invnorm)) 8 n = eight_some (ltb 8 n && not (finite invnorm)) n told.1 in
+        let is = measurement_unfit M p (not (finite invnorm)) n told.0 told.1 in
+        (sym (rw is (first_some _ _ some)), some)
 
-  -- what the rows of a projection let pass
-  module _ (invnorm : Float) (m : Memory) (e : projection_row M p invnorm m.state m.scratch ≡ 0) where
-    pub projection_fit : measurement_row M p false ≡ 0
-    unfolding projection_row
-    projection_fit =
-        let unfit = not (finite invnorm) in
-        let none = (first_passed (measurement_row M p unfit) _ e).0 in
-        subst (λ (t : Bool). measurement_row M p t ≡ 0) (measurement_passed M p unfit none).1 none
-
-    rooms : HasRoom M.n m.state × (eqb M.x 0 ≡ false → HasRoom (M.n - 1) m.scratch)
-    unfolding projection_row room_row
-    rooms =
-        let state = room M.n m.state in
-        let scratch = room (M.n - 1) m.scratch in
-        let other = eqb M.x 0 || scratch in
-        let thirteen = (first_passed (measurement_row M p (not (finite invnorm))) _ e).1 in
-        let enough = not-false (state && other) (row_passed (not (state && other)) 13 0 (lit< tt) thirteen).0 in (
-          room_is M.n m.state (both_left state other enough),
-          λ mixing. room_is (M.n - 1) m.scratch (either_other (eqb M.x 0) scratch (both_right state other enough) mixing),
-        )
-
-    pub projection_rooms : (K : MeasurementKernel) → K ≡ measurement_kernel M p
-        → HasRoom K.action.n m.state × (K.diagonal ≡ false → HasRoom (K.action.n - 1) m.scratch)
-    unfolding measurement_kernel pauli_action
-    projection_rooms K is =
-        subst (λ (k : MeasurementKernel). HasRoom k.action.n m.state × (k.diagonal ≡ false → HasRoom (k.action.n - 1) m.scratch)) (sym is) rooms
+    pub projection_passed : measurement_row M p false ≡ 0
+        → kernel_row (measurement_kernel M p) invnorm m ≡ projection_row M p invnorm m.state m.scratch
+    unfolding projection_row kernel_row measurement_kernel pauli_action measurement_row
+    projection_passed e =
+        let eight = row (not (finite invnorm)) 8 0 in
+        let rooms = room_row (room M.n m.state && (eqb M.x 0 || room (M.n - 1) m.scratch)) in
+        let a = first_passed (hermitian_row widest_kernel M) _ e in
+        let b = first_passed (row false 8 0) (pivot_row M p) a.1 in
+        let only : measurement_row M p (not (finite invnorm)) ≡ eight
+        = first_none (hermitian_row widest_kernel M) _ a.0 ∙ ap (first eight) b.1 ∙ first_nothing eight in
+        sym (ap (λ (r : ℕ). first r rooms) only)
 
   module _ (S : State) where
     pub probability_refused : (a : Float) (n : ℕ) → refused n ≡ answered (measurement_row M p false) (measurement_kernel M p) → refused n ≡ answered (probability_row M p S) a

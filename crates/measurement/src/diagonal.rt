@@ -9,8 +9,7 @@ ghost use Rattle.amplitudelaws.specs.State.{written, state_of};
 ghost use Rattle.kernels.specs.Kernel.{measurement_kernel_of};
 ghost use Rattle.measurement.specs.Measured.{kernel_projected};
 
-use crate::Measured;
-use complex::amplitude;
+use crate::{Measured, amplitude};
 
 impl Measured {
     pub(crate) fn project_diagonal(self, re: &mut [f64], im: &mut [f64], invnorm: f64)

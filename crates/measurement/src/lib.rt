@@ -3,6 +3,7 @@
 // Upper halves and what lies past the state are kept.
 #![tactic(auto)]
 
+mod amplitude;
 mod diagonal;
 mod mixing;
 mod norm;
@@ -13,16 +14,16 @@ ghost use Rattle.activepauli.specs.Active.{active_of};
 ghost use Rattle.amplitudelaws.specs.Calls.{weighing, projecting};
 ghost use Rattle.amplitudelaws.specs.Lent.{Room};
 ghost use Rattle.amplitudelaws.specs.Memory.{memory_of};
-ghost use Rattle.amplitudelaws.specs.Rows.{projection_row};
 ghost use Rattle.amplitudelaws.specs.State.{state_of};
-ghost use Rattle.refusals.specs.Refusal.{answer_of, row_of};
+ghost use Rattle.refusals.specs.Refusal.{answer_of, number_of, row_of};
 ghost use Rattle.rows.specs.Step.{step_answer_of};
 ghost use Rattle.kernels.specs.Kernel.{measurement_kernel_of};
 ghost use Rattle.measurement.specs.Measured.{kernel_memory, Projectable};
+ghost use Rattle.measurement.specs.Rows.{with_eight, kernel_row};
 
 use activepauli::ActivePauli;
 use kernels::PrecomputedActivePauliMeasurementKernel;
-use refusals::Row;
+use refusals::{Row, refuse_if};
 
 // A kernel that a Pauli made, and the branch that is asked for.
 #[derive(Clone, Copy)]
@@ -66,33 +67,46 @@ pub fn project_contiguous(
         let did = projecting (active_of pauli) pivot (bit_of branch) invnorm m in
         (step_answer_of result ≡ did.answer) × (memory_of re.new im.new scratch_re.new scratch_im.new ≡ did.lent) }
 {
-    projection_row(re, im, scratch_re, scratch_im, pauli, pivot, invnorm)?;
-    // Never refused here: its rows are among those that were asked.
-    let kernel = PrecomputedActivePauliMeasurementKernel::with_pivot(pauli, pivot)?;
+    let kernel = match PrecomputedActivePauliMeasurementKernel::with_pivot(pauli, pivot) {
+        Ok(kernel) => kernel,
+        Err(row) => return Err(with_eight(row, invnorm)),
+    };
     let measured = Measured { kernel, branch };
+    measured.kernel_row(re, im, scratch_re, scratch_im, invnorm)?;
     measured.project(re, im, scratch_re, scratch_im, invnorm);
     Ok(())
 }
 
-fn projection_row(
-    re: &[f64],
-    im: &[f64],
-    scratch_re: &[f64],
-    scratch_im: &[f64],
-    pauli: ActivePauli,
-    pivot: usize,
-    invnorm: f64,
-) -> Result<(), Row>
-    ensures { let m = memory_of re.now im.now scratch_re.now scratch_im.now in
-        row_of result ≡ projection_row (active_of pauli) pivot invnorm m.state m.scratch }
+// Row 8, of invnorm, stands between the rows of a kernel, up to 7 and from 9.
+fn with_eight(row: Row, invnorm: f64) -> Row
+    ensures { number_of result ≡ with_eight (number_of row) invnorm }
 {
-    rows::measurement_row(pauli, pivot, !rows::is_finite(invnorm))?;
-    let n = pauli.nqubits;
-    let scratch = (pauli.x == 0) | rows::has_room(scratch_re, scratch_im, n - 1);
-    rows::room_row(rows::has_room(re, im, n) & scratch)
+    if (8 < u8::from(row)) & !rows::is_finite(invnorm) {
+        Row::UnfitFloat
+    } else {
+        row
+    }
 }
 
 impl Measured {
+    // Rows 8 and 13, where there is a kernel.
+    fn kernel_row(
+        self,
+        re: &[f64],
+        im: &[f64],
+        scratch_re: &[f64],
+        scratch_im: &[f64],
+        invnorm: f64,
+    ) -> Result<(), Row>
+        ensures { let m = memory_of re.now im.now scratch_re.now scratch_im.now in
+            row_of result ≡ kernel_row (measurement_kernel_of self.kernel) invnorm m }
+    {
+        refuse_if(!rows::is_finite(invnorm), Row::UnfitFloat)?;
+        let n = self.kernel.action.nqubits;
+        let scratch = self.kernel.is_diagonal | rows::has_room(scratch_re, scratch_im, n - 1);
+        rows::room_row(rows::has_room(re, im, n) & scratch)
+    }
+
     fn project(
         self,
         re: &mut [f64],

@@ -9,8 +9,8 @@ ghost use Rattle.complex.specs.Complex.{complex_of};
 ghost use Rattle.kernels.specs.Kernel.{measurement_kernel_of};
 ghost use Rattle.measurement.specs.Measured.{kernel_remaining, kernel_projected};
 
-use crate::Measured;
-use complex::{Complex64, amplitude};
+use crate::{Measured, amplitude};
+use complex::Complex64;
 
 impl Measured {
     // What the branch leaves at output j, before invnorm.
@@ -58,7 +58,7 @@ impl Measured {
     }
 }
 
-// The first 2^nqubits amplitudes copied from the scratch.
+// The first 2^nqubits amplitudes copied from the scratch, one by one: a copy of slices would need the C library's.
 pub(crate) fn copy_back(
     re: &mut [f64],
     im: &mut [f64],
@@ -71,6 +71,7 @@ pub(crate) fn copy_back(
         state_of re.new im.new ≡ written nqubits (point scratch) (state_of re.old im.old) }
 {
     let dim = 1usize << nqubits;
-    re[..dim].copy_from_slice(&scratch_re[..dim]);
-    im[..dim].copy_from_slice(&scratch_im[..dim]);
+    for j in 0..dim {
+        amplitude::write(re, im, j, amplitude::read(scratch_re, scratch_im, j));
+    }
 }

@@ -7,8 +7,8 @@ ghost use Rattle.complex.specs.Complex.{complex_of};
 ghost use Rattle.kernels.specs.Kernel.{measurement_kernel_of};
 ghost use Rattle.measurement.specs.Measured.{kernel_remaining, kernel_mass};
 
-use crate::{Measured, diagonal};
-use complex::{Complex64, amplitude};
+use crate::{Measured, amplitude, diagonal};
+use complex::Complex64;
 
 impl Measured {
     // From 0, output index rising.

@@ -7,7 +7,8 @@ ghost use Rattle.amplitudelaws.specs.Rows.{widest_promotion};
 ghost use Rattle.amplitudelaws.specs.State.{point, written, state_of};
 ghost use Rattle.complex.specs.Complex.{complex_of};
 
-use complex::{Complex64, amplitude};
+use crate::amplitude;
+use complex::Complex64;
 
 #[tactic(auto, using(bitlaws::specs::Digit::one_shifted, amplitudelaws::specs::Sweeping::sweeping_none))]
 pub(crate) fn promote(re: &mut [f64], im: &mut [f64], nqubits: usize, c: f64, q: f64)

@@ -2,6 +2,7 @@
 // being the highest. The comment over the Rust has -i q; its code multiplies by +i q, as here.
 #![tactic(auto)]
 
+mod amplitude;
 mod halves;
 
 ghost use Rattle.std.specs.Prelude.{◌≡◌};

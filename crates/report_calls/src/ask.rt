@@ -8,7 +8,7 @@ use pauli_calls::{form, show};
 use run_text::line;
 
 pub(crate) fn call(call: Call, run: &[u8], words: [u64; 12]) -> Option<()> {
-    let pauli = read::pauli(words, 0);
+    let pauli = read::first_pauli(words);
     let number = form::index(words[4]);
     match call {
         Call::Report(caller) => {
@@ -43,7 +43,7 @@ fn each(run: &[u8], pauli: ActivePauli, caller: Caller) {
 fn listed(call: Call, run: &[u8], words: [u64; 12], word: u64) -> Option<()> {
     let mut space = crate::dots();
     let out = space.get_mut(..form::index(word))?;
-    let pauli = read::pauli(words, 0);
+    let pauli = read::first_pauli(words);
     write::length(match call {
         Call::Line => reports::list_step(run, pauli, form::index(words[4]), out),
         Call::Lines => reports::list_steps(run, pauli, out),

@@ -10,9 +10,8 @@ ghost use Rattle.reports.specs.NarrowRun.{NarrowFramed};
 ghost use Rattle.lines.specs.Stored.{Stored};
 ghost use Rattle.reports.specs.Text.{qubits_text, flag_text, kind_text, step_text, step_line, end_line, refusal_at_line};
 
-use crate::pieces::{put_named, put_numbered, put_qubits};
+use crate::pieces::{put, put_named, put_numbered, put_qubits};
 use activepauli::ActivePauli;
-use lines::put;
 use refusals::RowAt;
 use reporter::{Flag, Framed};
 use steps::Step;

@@ -11,13 +11,31 @@ ghost use Rattle.reports.specs.Text.{qubit_text, qubits_from};
 use activepauli::ActivePauli;
 use paulis::PauliString;
 
+// A text. It stands here and not with the lines: open to others it would ask for room.
+pub(crate) fn put(text: &[u8], at: usize, out: &mut [u8]) -> usize
+    requires { at + length text.now ≤ length out.old }
+    ensures { Stored text.now at out.old result out.new }
+{
+    at + octets::copy(text, &mut out[at..])
+}
+
+// A number in decimal.
+pub(crate) fn put_number(n: u64, at: usize, out: &mut [u8]) -> usize
+    requires { at + length (decimal n) ≤ length out.old }
+    ensures { Stored (decimal n) at out.old result out.new }
+{
+    let mut digits = [0u8; 20];
+    let count = io::decimal(n, &mut digits);
+    put(&digits[..count], at, out)
+}
+
 // A text and behind it a number.
 pub(crate) fn put_numbered(label: &[u8], n: u64, at: usize, out: &mut [u8]) -> usize
     requires { at + length label.now + length (decimal n) ≤ length out.old }
     ensures { Stored (label.now ++ decimal n) at out.old result out.new }
 {
-    let end = lines::put(label, at, out);
-    lines::put_number(n, end, out)
+    let end = put(label, at, out);
+    put_number(n, end, out)
 }
 
 // A Pauli.
@@ -33,7 +51,7 @@ pub(crate) fn put_named(label: &[u8], pauli: ActivePauli, at: usize, out: &mut [
     requires { NarrowPauli (active_of pauli) × (at + length label.now + 15 ≤ length out.old) }
     ensures { Stored (label.now ++ shown (active_of pauli)) at out.old result out.new }
 {
-    let end = lines::put(label, at, out);
+    let end = put(label, at, out);
     put_pauli(pauli, end, out)
 }
 

@@ -11,7 +11,7 @@ ghost use Rattle.reports.specs.NarrowRun.{NarrowFramed};
 ghost use Rattle.reports.specs.Put.{PutFitting};
 ghost use Rattle.reports.specs.Text.{step_line, end_line};
 
-use crate::line;
+use crate::{line, pieces};
 use activepauli::ActivePauli;
 use callers::Caller;
 use reporter::Framed;
@@ -24,7 +24,7 @@ fn put_fitting(text: &[u8], at: usize, out: &mut [u8]) -> usize
 {
     let end = at + text.len();
     if end <= out.len() {
-        lines::put(text, at, out);
+        pieces::put(text, at, out);
     }
     end
 }

@@ -7,8 +7,7 @@ ghost use Rattle.amplitudelaws.specs.Rotation.{rotated_diagonal};
 ghost use Rattle.amplitudelaws.specs.State.{point, written, state_of};
 ghost use Rattle.kernels.specs.Kernel.{rotation_kernel_of};
 
-use crate::Rotation;
-use complex::amplitude;
+use crate::{Rotation, amplitude};
 
 impl Rotation {
     #[tactic(auto, using(bitlaws::specs::Digit::one_shifted, amplitudelaws::specs::Sweeping::sweeping_none))]

@@ -2,6 +2,7 @@
 // amplitudes, in place. What lies past them is kept.
 #![tactic(auto)]
 
+mod amplitude;
 mod diagonal;
 mod pairs;
 

@@ -11,8 +11,8 @@ ghost use Rattle.amplitudelaws.specs.State.{point, written, state_of};
 ghost use Rattle.complex.specs.Complex.{complex_of};
 ghost use Rattle.kernels.specs.Kernel.{rotation_kernel_of};
 
-use crate::Rotation;
-use complex::{Complex64, amplitude};
+use crate::{Rotation, amplitude};
+use complex::Complex64;
 
 impl Rotation {
     // z = 0: the same coefficient t for every pair, of which only the imaginary part is not zero.

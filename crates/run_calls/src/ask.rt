@@ -8,7 +8,7 @@ use steps::{Cursor, Step, tag};
 
 pub(crate) fn call(call: u8, run: &[u8], words: [u64; 12], lent: &[u8]) -> Option<()> {
     let caller = text::caller(call);
-    let pauli = read::pauli(words, 0);
+    let pauli = read::first_pauli(words);
     match call {
         b'y' | b'Y' => carried(run, pauli, form::index(words[4]), caller),
         b'o' | b'O' => folded(run, form::index(words[0]), caller),
@@ -25,14 +25,14 @@ pub(crate) fn call(call: u8, run: &[u8], words: [u64; 12], lent: &[u8]) -> Optio
 // A call that nothing is lent to.
 fn alone(call: u8, run: &[u8], words: [u64; 12]) {
     let caller = text::caller(call);
-    let pauli = read::pauli(words, 0);
+    let pauli = read::first_pauli(words);
     match call {
         b'd' => write::field(run, form::index(words[0])),
         b't' => write::start(fields::start(run)),
         b'p' => step(run, words, Limits::Service(form::index(words[2]))),
         b'P' => step(run, words, caller.limits()),
         b's' => cuts(run, caller.limits()),
-        b'e' | b'E' => merge::merged(run, pauli, read::pauli(words, 4), caller),
+        b'e' | b'E' => merge::merged(run, pauli, read::second_pauli(words), caller),
         b'r' | b'R' => seek::sought(run, pauli, caller),
         _ => write::check(checker::check_run(run, caller.limits())),
     }
@@ -76,13 +76,13 @@ fn past(run: &[u8], words: [u64; 12], lent: &[u8]) -> Option<()> {
     let mut floats = [0.0; 2];
     let _ = read::floats(lent, &mut floats);
     let step = step_of(*tag, words, floats);
-    write::past(passing::past(read::pauli(words, 0), step));
+    write::past(passing::past(read::first_pauli(words), step));
     Some(())
 }
 
 // The step of a tag, on the second Pauli; word 8 is the sign or the branch and word 9 the pivot.
 fn step_of(tag: u8, words: [u64; 12], floats: [f64; 2]) -> Step {
-    let pauli = read::pauli(words, 4);
+    let pauli = read::second_pauli(words);
     let flag = words[8] == 1;
     let [first, second] = floats;
     match tag {
@@ -102,7 +102,7 @@ fn on_state(call: u8, run: &[u8], words: [u64; 12], lent: &[u8]) -> Option<()> {
     let (im, _) = floats(rest, &mut im);
     let caller = text::caller(call);
     match call {
-        b'h' | b'H' => return both::carried(run, read::pauli(words, 0), re, im, caller),
+        b'h' | b'H' => return both::carried(run, read::first_pauli(words), re, im, caller),
         b'l' | b'L' => fold::equal(run, re, im, caller),
         _ => ran(run, words, re, im, caller),
     }

@@ -1,31 +1,32 @@
-use Rattle.std.proofs.Common.{◌≡◌, ℕ, zero, suc, ◌≤◌, List, [], ◌∷◌, ◌++◌, length, get_or, take, drop, refl, ap, arith}
-use Rattle.std.specs.Float.{nan}
-use Rattle.std.specs.Prelude.{Float}
+-- the number of amplitudes that are copied
+use mathlib.Core.Path.{◌≡◌}
+use Prim.Native.Nat.{◌*◌, ◌%◌, ◌^◌}
+use native.Mathlib.Omega.{arith}
 use Rattle.bitlaws.specs.Digit.{one_shifted}
-use Rattle.statelaws.specs.Over.{over}
-use Rattle.amplitudelaws.specs.State.{point, written}
-use Rattle.amplitudelaws.specs.Sweeping.{state_same}
+use Rattle.amplitudelaws.specs.Sweeping.{sweeping_none, one_more}
+use Rattle.amplitudelaws.proofs.Sweeping.{one_all}
 use Rattle.measurement.proofs.mixing.copy_back.Goals as goal
+use Rattle.measurement.proofs.mixing.copy_back.Goals.{At-loop-j}
 
--- the first n of xs before the rest of ys
-taken_over : {A : Type 0} (d : A) (n : ℕ) (xs ys : List A) → n ≤ length xs → n ≤ length ys
-    → take n xs ++ drop n ys ≡ over n (λ k. get_or xs k d) ys
-unfolding over
-taken_over d zero xs ys hx hy = refl
-taken_over d (suc n) [] ys hx hy = absurd (omega arith)
-taken_over d (suc n) (x ∷ xs) [] hx hy = absurd (omega arith)
-taken_over d (suc n) (x ∷ xs) (y ∷ ys) hx hy = ap (λ l. x ∷ l) (taken_over d n xs ys (omega arith) (omega arith))
+size : (c : At-loop-j) → let n = c.args.nqubits in (1 * 2 ^ n) % 2 ^ 64 ≡ 2 ^ n
+size c = one_shifted 64 c.args.nqubits (omega (arith, c.requires.0))
 
-copied : (n m : ℕ) (new xs ys : List Float) → m ≡ n → new ≡ take m xs → n ≤ length xs → n ≤ length ys
-    → new ++ drop m ys ≡ over n (λ k. get_or xs k nan) ys
-copied n m new xs ys e is hx hy = rw (is, e) (taken_over nan n xs ys hx hy)
+pub loop-j-init : goal.loop-j-init
+loop-j-init c = sweeping_none c.requires.1.0 c.requires.1.1
+
+pub read-requires : goal.read-requires
+read-requires c =
+    let pre = c.requires in
+    omega (arith, size (goal.at.read-requires c).At-loop-j, pre.2.0, pre.2.1)
+
+pub write-requires : goal.write-requires
+write-requires c =
+    let swept = c.loop-j.invariant in
+    omega (arith, size (goal.at.write-requires c).At-loop-j, swept.re.room, swept.im.room, swept.re.len, swept.im.len)
+
+pub loop-j-preserved : goal.loop-j-preserved
+loop-j-preserved c =
+    one_more c.loop-j.invariant _ _ c.write.ensures (omega (arith, size (goal.at.loop-j-preserved c).At-loop-j)) c.read.ensures
 
 pub returns : goal.returns
-unfolding written point
-returns c =
-    let a = c.args in
-    let pre = c.requires in
-    let dim = one_shifted 64 a.nqubits (omega arith) in
-    state_same
-    (copied _ _ _ a.scratch_re.now _ dim c.copy_from_slice.ensures.after pre.2.0 pre.1.0)
-    (copied _ _ _ a.scratch_im.now _ dim c.copy_from_slice-2.ensures.after pre.2.1 pre.1.1)
+returns c = one_all c.loop-j.invariant (omega (arith, size (goal.at.returns c).At-loop-j))

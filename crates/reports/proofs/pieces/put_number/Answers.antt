@@ -7,7 +7,7 @@ use lib.ListN.{length, take}
 use Rattle.lines.specs.Lines.{decimal}
 use Rattle.lines.proofs.Digits.{decimal_digits}
 use Rattle.lines.specs.Stored.{Stored}
-use Rattle.lines.proofs.put_number.Goals as goal
+use Rattle.reports.proofs.pieces.put_number.Goals as goal
 
 pub put-requires : goal.put-requires
 put-requires c =

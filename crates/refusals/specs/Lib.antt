@@ -1,2 +1,3 @@
 pub mod Optional
+pub mod Printed
 pub mod Refusal

@@ -64,6 +64,11 @@ impl From<Row> for u8 {
 }
 
 impl fmt::Display for Row {
+    ghost use Rattle.std.specs.Prelude.{Some};
+    ghost use Rattle.refusals.specs.Printed.{row_text};
+
+    ghost output = { λ row. Some (row_text row) };
+
     fn fmt<W: fmt::Write>(&self, f: &mut fmt::Formatter<W>) -> fmt::Result {
         let number = u8::from(*self);
         write!(f, "refused {number}")
@@ -80,6 +85,11 @@ pub struct RowAt {
 }
 
 impl fmt::Display for RowAt {
+    ghost use Rattle.std.specs.Prelude.{Some};
+    ghost use Rattle.refusals.specs.Printed.{row_at_text};
+
+    ghost output = { λ row_at. Some (row_at_text row_at) };
+
     fn fmt<W: fmt::Write>(&self, f: &mut fmt::Formatter<W>) -> fmt::Result {
         let row = self.row;
         let at = self.at;
@@ -113,6 +123,11 @@ impl From<RowAt> for Refusal {
 }
 
 impl fmt::Display for Refusal {
+    ghost use Rattle.std.specs.Prelude.{Some};
+    ghost use Rattle.refusals.specs.Printed.{refusal_text};
+
+    ghost output = { λ refusal. Some (refusal_text refusal) };
+
     fn fmt<W: fmt::Write>(&self, f: &mut fmt::Formatter<W>) -> fmt::Result {
         match self {
             Refusal::Whole(row) => write!(f, "{row}"),

@@ -29,23 +29,24 @@ pub fn digit(byte: u8) -> Option<u8> {
     }
 }
 
-// What a byte adds to a word at a place, of which place 0 is the space.
-fn digit_at(byte: u8, place: usize) -> Option<u8> {
-    if place != 0 {
-        return digit(byte);
+// Reads a word that is zero before; none where something else stands there. The digits before that are read all the same.
+fn read_word(part: &[u8], word: &mut u64) -> Option<()> {
+    let [b' ', digits @ ..] = part else {
+        return None;
+    };
+    for byte in digits {
+        *word = (*word << 4) | u64::from(digit(*byte)?);
     }
-    (byte == b' ').then_some(0)
+    (digits.len() == 16).then_some(())
 }
 
 // Reads words that are zeros before, and answers how many there are: none where something else stands
 // there, or more words than were lent.
 pub fn words(text: &[u8], words: &mut [u64]) -> Option<usize> {
-    for (i, byte) in text.iter().enumerate() {
-        let digit = digit_at(*byte, i % 17)?;
-        let word = words.get_mut(i / 17)?;
-        *word = (*word << 4) | u64::from(digit);
+    for (i, part) in text.chunks(17).enumerate() {
+        read_word(part, words.get_mut(i)?)?;
     }
-    (text.len() % 17 == 0).then_some(text.len() / 17)
+    Some(text.len() / 17)
 }
 
 pub fn index(word: u64) -> usize {

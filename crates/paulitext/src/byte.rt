@@ -46,6 +46,32 @@ fn prefix(coefficient: u8) -> &'static [u8]
     }
 }
 
+// The same written to the front of `out`, byte by byte: a copy of slices would need the C library's.
+#[tactic(auto, unfolding(crate::specs::Text::prefix))]
+fn write_prefix(coefficient: u8, out: &mut [u8]) -> usize
+    requires { length (text.prefix coefficient) ≤ length out.old }
+    ensures { let s = text.prefix coefficient in (result ≡ length s) × (out.new ≡ s ++ drop (length s) out.old) }
+{
+    match coefficient {
+        0 => 0,
+        1 => {
+            out[0] = b'i';
+            out[1] = b'*';
+            2
+        }
+        2 => {
+            out[0] = b'-';
+            1
+        }
+        _ => {
+            out[0] = b'-';
+            out[1] = b'i';
+            out[2] = b'*';
+            3
+        }
+    }
+}
+
 // How long the text of `nqubits` letters is: no qubits show as one.
 pub(crate) fn text_len(coefficient: u8, nqubits: usize) -> usize
     requires { nqubits ≤ 256 }
@@ -61,7 +87,7 @@ pub(crate) fn write(pauli: PauliString, coefficient: u8, out: &mut [u8])
     ensures { let s = text.prefix coefficient ++ body pauli.nqubits (pauli_of pauli) in
         out.new ≡ s ++ drop (length s) out.old }
 {
-    let at = octets::copy(prefix(coefficient), out);
+    let at = write_prefix(coefficient, out);
     for q in 0..pauli.nqubits.max(1) {
         out[at + q] = of_letter(pauli.get(q).unwrap_or(Pauli::I));
     }

@@ -255,7 +255,7 @@ without_corrections caller narrow = record {
   kept = folding_kept caller;
 }
 
--- and so for the service, which is what the calls fold_run and run_contiguous promise, and for the emulator: fold_emulated and run_emulated
+-- and so for the service and for the emulator, which is what the calls fold_run and run_contiguous promise of each
 pub without_corrections_at_the_service : WithoutCorrections service
 without_corrections_at_the_service = without_corrections service (leb→le widest_run widest_kernel tt)
 

@@ -367,7 +367,7 @@ frame_logs caller narrow = record {
   longest = λ s R read. omega (arith, flags_most caller s R read, count_is R.steps);
 }
 
--- and so of what judge_log and log_run promise to the service, and judge_emulated and log_emulated to the emulator
+-- and so of what judge_log and log_run promise to the service, and to the emulator
 pub frame_logs_at_the_service : FrameLogs service
 frame_logs_at_the_service = frame_logs service (omega arith)
 

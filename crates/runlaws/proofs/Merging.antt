@@ -45,7 +45,7 @@ two_corrections caller = record {
   in_turn = λ s out last Q ends Qs. merged_in_turn caller s out Q ends last Qs;
 }
 
--- and so of what carry_run promises to the service, and carry_emulated to the emulator
+-- and so of what carry_run promises to the service, and to the emulator
 pub two_corrections_at_the_service : TwoCorrections service
 two_corrections_at_the_service = two_corrections service
 

@@ -237,7 +237,7 @@ step_reports caller = record {
   ends = ends caller;
 }
 
--- and so of what report_step and carry_run promise to the service, and report_emulated and carry_emulated to the emulator
+-- and so of what report_step and carry_run promise to the service, and to the emulator
 pub step_reports_at_the_service : StepReports service
 step_reports_at_the_service = step_reports service
 

@@ -175,7 +175,7 @@ start_for_end caller narrow = record {
   last = or_none caller narrow;
 }
 
--- and so of what seek_start and carry_run promise to the service, and seek_emulated and carry_emulated to the emulator
+-- and so of what seek_start and carry_run promise to the service, and to the emulator
 pub start_for_end_at_the_service : StartForEnd service
 start_for_end_at_the_service = start_for_end service (lit≤ tt)
 

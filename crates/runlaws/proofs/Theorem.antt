@@ -175,7 +175,7 @@ frame caller narrow = record {
   refused_correction = fired_refused;
 }
 
--- and so for the service, which is what the calls run_contiguous and carry_run promise, and for the emulator: run_emulated and carry_emulated
+-- and so for the service and for the emulator, which is what the calls run_contiguous and carry_run promise of each
 pub frame_at_the_service : FrameTheorem service
 frame_at_the_service = frame service (leb→le widest_run widest_kernel tt)
 

@@ -1,5 +1,5 @@
 -- THE FRAME THEOREM, as it is stated: demand 3, in the scope's own sentences (its paragraph on carrying), over the definitions that the calls run_contiguous,
--- carry_run and correct_contiguous_active promise, to the service, and run_emulated and carry_emulated to the emulator. Theorem.antt proves it.
+-- carry_run and correct_contiguous_active promise, to the service, and the first two to the emulator. Theorem.antt proves it.
 use Rattle.std.specs.Prelude.{◌≡◌, true, false, List, ◌⊎◌, ℕ, ◌^◌, ◌≤◌, ◌<◌, T, Float, length, take, drop}
 use Rattle.std.proofs.Math.Option.{some}
 use Rattle.answers.specs.Answer.{is_accepted}

@@ -1,5 +1,5 @@
--- JUDGING THE CHIP'S FRAME LOG, as it is stated: E10 of the change requests, over the definitions that judge_log, log_run and carry_run promise to the service, and judge_emulated, log_emulated
--- and carry_emulated to the emulator. Judging.antt proves it. No amplitude is read, so there is no premise on any.
+-- JUDGING THE CHIP'S FRAME LOG, as it is stated: E10 of the change requests, over the definitions that judge_log, log_run and carry_run promise to the service, and
+-- to the emulator. Judging.antt proves it. No amplitude is read, so there is no premise on any.
 use Rattle.std.specs.Prelude.{◌≡◌, Bool, true, false, List, [], ◌∷◌, ℕ, suc, ◌+◌, ◌≤◌, ◌<◌, Float, length, take, drop}
 use Rattle.answers.specs.Answer.{is_accepted}
 use Rattle.answers.specs.Answer.Answer.{accepted, refused, refused_at}

@@ -1,5 +1,5 @@
--- WHICH START GIVES THIS END, as it is stated: E12 of the change requests, over the definitions that seek_start and carry_run promise to the service, and seek_emulated
--- and carry_emulated to the emulator. Seeking.antt proves it. No amplitude is read, so there is no premise on any.
+-- WHICH START GIVES THIS END, as it is stated: E12 of the change requests, over the definitions that seek_start and carry_run promise to the service, and
+-- to the emulator. Seeking.antt proves it. No amplitude is read, so there is no premise on any.
 use Rattle.std.specs.Prelude.{◌≡◌, true, false, List, ◌⊎◌, ℕ, ◌≤◌, length}
 use Rattle.std.proofs.Math.Option.{some}
 use Rattle.answers.specs.Answer.Answer.{accepted, refused, refused_at}

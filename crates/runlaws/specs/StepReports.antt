@@ -1,5 +1,5 @@
--- TELL ME ABOUT STEP 40, as it is stated: E7 of the change requests, over the definitions that report_step and carry_run promise to the service, and report_emulated and
--- carry_emulated to the emulator. Reporting.antt proves it. No amplitude is read, so there is no premise on any.
+-- TELL ME ABOUT STEP 40, as it is stated: E7 of the change requests, over the definitions that report_step and carry_run promise to the service, and
+-- to the emulator. Reporting.antt proves it. No amplitude is read, so there is no premise on any.
 use Rattle.std.specs.Prelude.{◌≡◌, Bool, true, false, not, List, ◌++◌, ℕ, ◌+◌, ◌%◌, ◌^◌, ◌≤◌, ◌<◌, eqb, Float, length, take}
 use Rattle.std.specs.Int.Count.{ones}
 use Rattle.answers.specs.Answer.Answer.{accepted, refused, refused_at}

@@ -1,4 +1,4 @@
--- TWO CORRECTIONS, ONE CARRY, as it is stated: E11 of the change requests, over the definition that carry_run promises to the service and carry_emulated to the
+-- TWO CORRECTIONS, ONE CARRY, as it is stated: E11 of the change requests, over the definition that carry_run promises to the service and to the
 -- emulator. Merging.antt proves it. No amplitude is read, so there is no premise on any.
 use Rattle.std.specs.Prelude.{◌≡◌, true, List, [], ◌∷◌, ◌++◌, ◌↔◌, ℕ, ◌≤◌, length, drop}
 use Rattle.answers.specs.Answer.{is_accepted}

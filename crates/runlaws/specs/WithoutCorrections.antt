@@ -1,5 +1,5 @@
 -- RUNS WITHOUT CORRECTIONS, as it is stated: E2 of the change requests, over the definitions that fold_run, run_contiguous and correct_contiguous_active promise to the
--- service, and fold_emulated and run_emulated to the emulator. Folding.antt proves it. Quarter turns are no corrections: they stay.
+-- service, and the first two to the emulator. Folding.antt proves it. Quarter turns are no corrections: they stay.
 use Rattle.std.specs.Prelude.{◌≡◌, true, false, List, [], ◌∷◌, ◌++◌, ◌⊎◌, ℕ, ◌+◌, ◌*◌, ◌^◌, ◌≤◌, ◌<◌, length, take, drop}
 use Rattle.std.proofs.Math.Option.{some}
 use Rattle.answers.specs.Answer.{is_accepted}

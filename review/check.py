@@ -20,7 +20,7 @@ CRATES = ROOT / "crates"
 PROGRAMS = {p.parent.parent.name for p in CRATES.glob("*/src/main.rt")}
 # Bytes copied into a lent slice, and the first place of one: no call of the paper's, and the crates above see to what they ask for.
 ASKING = {"octets"}
-TESTS = {"pauli_calls", "kernel_calls", "run_text", "run_calls"}  # text in, text out: libraries of the test programs
+TESTS = {"pauli_calls", "kernel_calls", "run_text", "run_calls", "report_calls"}  # text in, text out: libraries of the test programs
 # What nothing else cites since it is what is shown.
 RESULTS = set("""
 product_acts anticommute commute identity_product product_identity product_assoc hermitian_square sign_phase raised_acts dropped_acts
@@ -30,6 +30,8 @@ default_top listed_run listed_refusal listed_count fresh_first fresh_others run_
 seen_by_a_tag seen_by_its_tag step_tag end_tag quarter_turn_is flag_own
 frame_at_the_emulator shared_logs service_and_emulator only_the_emulator only_the_service own_line none_numbered first_part number_back
 """.split())
+# .. or what older proofs cited and today's do not; the theorems stay.
+RESULTS |= set("word_leading word_top opening_index opening_past no_nan no_paulis unequal no_pauli_qubit".split())
 found = []
 
 

@@ -3,6 +3,10 @@
 // not tell which order of rounding is meant.
 #![tactic(auto)]
 
+pub mod amplitude;
+#[cfg(test)]
+mod tests;
+
 ghost use Rattle.std.specs.Prelude.{◌≡◌, ◌%◌};
 ghost use Rattle.bitlaws.specs.Digit.{bit_of};
 ghost use Rattle.amplitudelaws.specs.Arithmetic as formula;

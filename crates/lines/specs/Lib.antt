@@ -4,3 +4,4 @@ pub mod Lengths
 pub mod Newlines
 pub mod Pieces
 pub mod Stored
+pub mod Fitting

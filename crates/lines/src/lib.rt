@@ -3,12 +3,16 @@
 // A piece of a line is put at a place, and the answer is where it ends: a struct of both would say no more than `Stored`.
 #![tactic(auto)]
 
+#[cfg(test)]
+mod tests;
+
 ghost use Rattle.std.specs.Prelude.{◌≡◌, ◌++◌, ◌+◌, ◌≤◌, length};
 ghost use Rattle.std.proofs.lemmas.List.Edits.{sets};
 ghost use Rattle.lines.specs.Calls.{Lined};
 ghost use Rattle.lines.specs.Lines.{decimal, bits_of, listed_bits, width_line, amplitude_line, refusal_line};
 ghost use Rattle.lines.specs.Lines.{part as line_part};
 ghost use Rattle.lines.specs.Stored.{Stored};
+ghost use Rattle.lines.specs.Fitting.{fitting};
 
 use refusals::Row;
 
@@ -103,4 +107,17 @@ fn put(text: &[u8], at: usize, out: &mut [u8]) -> usize
     ensures { Stored text.now at out.old result out.new }
 {
     at + octets::copy(text, &mut out[at..])
+}
+
+// Puts a number in decimal at `at` where it has room there, and answers where it ends. Without room nothing is put, and it ends at `at`.
+pub fn put_number(n: u64, at: usize, out: &mut [u8]) -> usize
+    ensures { Stored (fitting (decimal n) at out.old) at out.old result out.new }
+{
+    let mut digits = [0u8; 20];
+    let count = io::decimal(n, &mut digits);
+    let room = out.len().saturating_sub(at);
+    if room < count {
+        return at;
+    }
+    put(&digits[..count], at, out)
 }

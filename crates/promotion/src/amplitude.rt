@@ -1,5 +1,5 @@
-// One amplitude of a state's two lent lists. It stands in each crate that reads or writes one:
-// open to others it would ask for a basis in both.
+// One amplitude of a state's two lent lists, at a basis in both. It stands in each crate whose loops read or write one:
+// complex' own, which is open to others and asks nothing, looks for the end of each list every time.
 ghost use Rattle.std.specs.Prelude.{◌≡◌};
 ghost use Rattle.amplitudelaws.specs.Lent.{In};
 ghost use Rattle.amplitudelaws.specs.State.{point, set_point, state_of};

@@ -19,7 +19,7 @@ pub(crate) fn put(text: &[u8], at: usize, out: &mut [u8]) -> usize
     at + octets::copy(text, &mut out[at..])
 }
 
-// A number in decimal.
+// A number in decimal. The lines' own, which is open to others and asks nothing, looks for room first.
 pub(crate) fn put_number(n: u64, at: usize, out: &mut [u8]) -> usize
     requires { at + length (decimal n) ≤ length out.old }
     ensures { Stored (decimal n) at out.old result out.new }
